@@ -1,18 +1,18 @@
 //! Whether a message is worth verifying.
 
-ghost use Rattle.std.specs.Prelude.{◌≡◌, Ok, IfOk, IfErr, OnOk};
+ghost use Rattle.std.specs.Prelude.{◌≡◌, Ok, IfErr, OnOk};
 ghost use Rattle.lgm_gossip.specs.Memory.{TakesMemory};
-ghost use Rattle.lgm_wire.specs.declared.chain_hash.ChainHash.{ChainHash as AChainHash};
 ghost use Rattle.lgm_store.specs.Admission.{verdict_of};
+ghost use Rattle.lgm_store.specs.Rows.{channel_of};
 ghost use Rattle.lgm_c.specs.inner.Following.{Fails};
 ghost use Rattle.lgm_c.specs.Offering.{offered_to};
 ghost use Rattle.lgm_c.specs.Status.{status_of};
-ghost use Rattle.lgm_c.specs.Wanting.{signed_by, right_on, right_verdicts, wanted, key_in, TellsOf, Wants, NoneMends};
+ghost use Rattle.lgm_c.specs.Wanting.{signed_by, setter_in, right_verdicts, key_in, TellsOf, Wants, NoneMends};
 
 use crate::fault::{Fault, status};
 use crate::map::{LgmMap, with_state};
 use lgm_check::{Evidence, Funding, Refusal, Sig, precheck};
-use lgm_gossip::{ChainHash, Message, Point, decode};
+use lgm_gossip::{ChainHash, ChannelUpdate, Layout, NodeAnnounce, Point, Scid, layout_of};
 use lgm_store::Map;
 use std::alloc::Global;
 
@@ -26,32 +26,33 @@ fn signed_by(point: Point) -> Evidence
     }
 }
 
-/// The right verdicts on a message, with the other key where it decides nothing.
-fn right_on(map: &Map, message: &Message, other: Point) -> Evidence
-    ensures { result ≡ right_on map.now message.now other }
+/// The node that sets the terms of a direction, if its channel is in the map, else the other key.
+fn setter(map: &Map, scid: Scid, second: bool, other: Point) -> Point
+    ensures { result ≡ setter_in (channel_of map.now.channels scid) second other }
 {
-    match message {
-        Message::Announce(_) => Evidence {
-            sig: Sig::AllFour(true),
-            funding: Funding::Unspent(0),
-        },
-        Message::ChannelUpdate(update) => match map.channel_info(update.short_channel_id) {
-            Some(stored) => signed_by(*stored.node(update.channel_flags % 2 == 1)),
-            None => signed_by(other),
-        },
-        Message::NodeAnnounce(node) => signed_by(node.node_id),
-        _ => signed_by(other),
+    match map.channel_info(scid) {
+        Some(stored) => *stored.node(second),
+        None => other,
     }
 }
 
-/// The right verdicts on bytes, or why no verdicts mend them. Memory is allocated only by decoding.
-fn right_verdicts(alloc: Global, map: &Map, bytes: &[u8], other: Point) -> Result<Evidence, Refusal>
-    ensures right { IfOk result (λ evidence. evidence ≡ right_verdicts map.now bytes.now other) }
-    ensures refused { IfErr result (λ refusal. (chain : AChainHash)
-        → Fails (TakesMemory bytes.now) (wanted chain map.now bytes.now other) refusal) }
+/// The right verdicts on the message of these bytes, with the other key where it decides nothing.
+fn right_verdicts(map: &Map, bytes: &[u8], other: Point) -> Evidence
+    ensures { result ≡ right_verdicts map.now bytes.now other }
 {
-    let message = decode(alloc, bytes)?;
-    Ok(right_on(map, &message, other))
+    match layout_of(bytes) {
+        Layout::Announce => Evidence {
+            sig: Sig::AllFour(true),
+            funding: Funding::Unspent(0),
+        },
+        Layout::Update => {
+            let update = ChannelUpdate::in_bytes(bytes);
+            let (scid, second) = (update.short_channel_id, update.channel_flags % 2 == 1);
+            signed_by(setter(map, scid, second, other))
+        }
+        Layout::Node => signed_by(NodeAnnounce::in_bytes(bytes).node_id),
+        Layout::Other => signed_by(other),
+    }
 }
 
 /// Whether a message is accepted with these verdicts. Memory is allocated only by decoding.
@@ -80,7 +81,7 @@ fn write_wanted(
 ) -> Result<(), Fault>
     ensures { TellsOf bytes.now chain.now map.now (status_of result) signer.old signer.new }
 {
-    let evidence = right_verdicts(alloc, map, bytes, Point(*signer))?;
+    let evidence = right_verdicts(map, bytes, Point(*signer));
     verdict(alloc, chain, map, bytes, &evidence)?;
     if let Sig::By(point) = evidence.sig {
         let Point(key) = point;

@@ -6,7 +6,7 @@ ghost use Rattle.lgm_route.specs.inner.Bounding.{AreLow};
 ghost use Rattle.lgm_route.specs.inner.Numbered.{IsDelayOver};
 ghost use Rattle.lgm_route.specs.inner.Searching.{label_at, number_at, SomeRest, SomeWalk, IsOffered, IsBetter};
 ghost use Rattle.lgm_route.specs.inner.Searching.{IsUpperBound, IsDominatorOf, cost};
-ghost use Rattle.lgm_route.specs.inner.State.{IsSearch, Extends, IsSettledAt, IsMarkedAt, IsFinished, bound_in};
+ghost use Rattle.lgm_route.specs.inner.State.{IsSearch, Extends, IsSettledAt, IsMarkedAt, IsFinished, IsPruned, bound_in};
 ghost use Rattle.lgm_route.specs.inner.Best.{IsBestWalk};
 ghost use Rattle.std.specs.Option.{option_map};
 
@@ -268,6 +268,7 @@ impl<'a, V: RoutingGraph> Search<'a, V> {
         requires settled { IsSettledAt self.old i }
         ensures extends { IfOk result (λ _. Extends self.old self.new) }
         ensures here { IfOk result (λ _. IsMarkedAt self.new i) }
+        ensures labels { self.new.labels ≡ self.old.labels }
     {
         mark(&mut self.done, i)?;
         Ok(())
@@ -324,6 +325,7 @@ impl<'a, V: RoutingGraph> Search<'a, V> {
         requires { i < length self.old.labels }
         ensures extends { IfOk result (λ _. Extends self.old self.new) }
         ensures here { IfOk result (λ _. IsMarkedAt self.new i) }
+        ensures pruned { IsPruned self.old i → self.new.labels ≡ self.old.labels }
     {
         if self.is_done(i) {
             return Ok(());

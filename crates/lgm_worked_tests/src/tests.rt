@@ -4,3 +4,4 @@ mod filters;
 mod items;
 mod payments;
 mod queries;
+mod views;

@@ -1,7 +1,7 @@
 //! How many labels a search within a delay makes, over a made network of 400 nodes.
 
 use super::made::{Item, NOTHING, Way, map_of, overlay_of};
-use lgm_graph::{Known, Overlay, View};
+use lgm_graph::{Known, Route, View};
 use lgm_route::{DelayLimit, LimitedFault, Request, answer_within};
 use lgm_store::Map;
 use lgm_test_gossip::{FREE, Numbers, Terms, point};
@@ -63,19 +63,52 @@ fn items(alloc: Global, numbers: &mut Numbers) -> Result<Vec<Item>, AllocError> 
     Ok(items)
 }
 
-/// Whether a payment is decided within a delay.
+/// A payment between two nodes.
+fn payment(numbers: &mut Numbers) -> Request {
+    Request {
+        payer: point(node(numbers)),
+        payee: point(node(numbers)),
+        amount: 1_000_000,
+        expiry: 700_000,
+    }
+}
+
+/// What a payment is answered on the map within a delay.
+fn answer(
+    rt: &impl Abort,
+    alloc: Global,
+    map: &Map,
+    request: &Request,
+    most_delay: u16,
+    most_labels: usize,
+) -> Result<Result<Route, LimitedFault>, AllocError> {
+    let overlay = overlay_of(alloc, NOTHING)?;
+    assert!(rt; map.count() <= 1_000_000 && overlay.extra_count() <= 1_000_000);
+    let view = View::of(alloc, map, &Known::all())?;
+    let limit = DelayLimit {
+        most_delay,
+        most_labels,
+    };
+    Ok(answer_within(alloc, map, &view, &overlay, request, &limit))
+}
+
+/// Whether it is decided by this many labels.
 fn is_decided(
     rt: &impl Abort,
     alloc: Global,
     map: &Map,
-    overlay: &Overlay,
     request: &Request,
-    limit: &DelayLimit,
+    most_delay: u16,
+    most_labels: usize,
 ) -> Result<bool, AllocError> {
-    assert!(rt; map.count() <= 1_000_000 && overlay.extra_count() <= 1_000_000);
-    let view = View::of(alloc, map, &Known::all())?;
-    let answer = answer_within(alloc, map, &view, overlay, request, limit);
-    Ok(!matches!(answer, Err(LimitedFault::Undecided)))
+    let found = answer(rt, alloc, map, request, most_delay, most_labels)?;
+    Ok(!matches!(found, Err(LimitedFault::Undecided)))
+}
+
+/// The network.
+fn made_map(alloc: Global, numbers: &mut Numbers) -> Result<Map, AllocError> {
+    let items = items(alloc, numbers)?;
+    map_of(alloc, items.as_slice())
 }
 
 /// A thousand labels decide each of 30 payments within each delay.
@@ -83,24 +116,58 @@ fn is_decided(
 fn few_labels_for_a_limit(rt: HostRuntime) -> Result<(), Fail> {
     let alloc = rt.alloc();
     let mut numbers = Numbers::new(3);
-    let items = items(alloc, &mut numbers)?;
-    let map = map_of(alloc, items.as_slice())?;
-    let overlay = overlay_of(alloc, NOTHING)?;
+    let map = made_map(alloc, &mut numbers)?;
     for turn in 0..30 {
-        let request = Request {
-            payer: point(node(&mut numbers)),
-            payee: point(node(&mut numbers)),
-            amount: 1_000_000,
-            expiry: 700_000,
-        };
+        let request = payment(&mut numbers);
         for most_delay in [288, 576, 1008, 2016] {
-            let limit = DelayLimit {
-                most_delay,
-                most_labels: 1_000,
-            };
-            let decided = is_decided(&rt, alloc, &map, &overlay, &request, &limit)?;
+            let decided = is_decided(&rt, alloc, &map, &request, most_delay, 1_000)?;
             assert!(rt; decided, "payment {turn} within {most_delay} blocks");
         }
     }
+    Ok(())
+}
+
+/// Labels that suffice within one block less than the best route of all has, payment by payment, with some room: the
+/// search needs 271, 220, 1, 289, 4, 13 and 1. If labels were settled in the order of what they send, without the bound on
+/// the fees before them, the first payment would need 857; if the bounds came from four steps of the forward search, the
+/// fifth 57.
+const ENOUGH: [usize; 7] = [400, 300, 10, 400, 20, 25, 10];
+
+/// The delay of the best route of all, if there is one and it is short enough to be a limit.
+fn least_delay(
+    rt: &impl Abort,
+    alloc: Global,
+    map: &Map,
+    request: &Request,
+) -> Result<Option<u16>, AllocError> {
+    let Ok(route) = answer(rt, alloc, map, request, u16::MAX, 100_000)? else {
+        return Ok(None);
+    };
+    let delay = route.expiry().saturating_sub(request.expiry);
+    match u16::try_from(delay) {
+        Ok(delay) if delay > 0 => Ok(Some(delay)),
+        _ => Ok(None),
+    }
+}
+
+#[test]
+fn few_labels_just_below(rt: HostRuntime) -> Result<(), Fail> {
+    let alloc = rt.alloc();
+    let mut numbers = Numbers::new(3);
+    let map = made_map(alloc, &mut numbers)?;
+    let mut place: usize = 0;
+    for turn in 0..12 {
+        let request = payment(&mut numbers);
+        let Some(delay) = least_delay(&rt, alloc, &map, &request)? else {
+            continue;
+        };
+        let Some(enough) = ENOUGH.get(place) else {
+            break;
+        };
+        let decided = is_decided(&rt, alloc, &map, &request, delay - 1, *enough)?;
+        assert!(rt; decided, "payment {turn} within {enough} labels");
+        place = place.saturating_add(1);
+    }
+    assert_eq!(rt; place, ENOUGH.len());
     Ok(())
 }

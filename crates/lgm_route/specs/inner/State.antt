@@ -1,12 +1,12 @@
 -- A search as one value: its input, and its state.
-use Rattle.std.specs.Prelude.{◌≡◌, ℕ, ◌^◌, ◌≤◌, List, length, Option, Bool, true, false, slice_index_or}
+use Rattle.std.specs.Prelude.{◌≡◌, ℕ, ◌+◌, ◌^◌, ◌≤◌, List, length, Option, Bool, true, false, slice_index_or}
 use Rattle.lgm_graph.specs.Graph.{Graph, edges, AreListed}
 use Rattle.lgm_graph.specs.declared.edge.Edge.{Edge}
 use Rattle.lgm_route.specs.declared.request.NumberedRequest.{NumberedRequest}
 use Rattle.lgm_route.specs.declared.label.Label.{Label}
 use Rattle.lgm_route.specs.inner.Numbered.{IsUsable}
 use Rattle.lgm_route.specs.inner.Bounding.{AreLow}
-use Rattle.lgm_route.specs.inner.Searching.{Low, label_at, bound_of, IsSettled, AreLabels, IsFound, Grows}
+use Rattle.lgm_route.specs.inner.Searching.{Low, label_at, number_at, cost, bound_of, IsSettled, AreLabels, IsFound, Grows}
 use Rattle.lgm_route.specs.inner.Searching.{RelaxesOn, RelaxesAll, AreSettled, IsNoBetter, IsUpperBound}
 use Rattle.lgm_route.specs.inner.Relaxations.{IsInto, IsRelaxation, AreRelaxations}
 
@@ -56,6 +56,12 @@ pub record Extends (before after : State) : Type 0 where
 -- the bound that a better walk is below
 abbrev pub bound_in : State → ℕ
 bound_in state = bound_of state.ground.upper_bound state.best
+
+-- no walk over a label is better than the best so far, by the lower bound on its cost
+abbrev pub IsPruned : State → ℕ → Type 0
+IsPruned state i =
+    let label = label_at state.labels i in
+    bound_in state ≤ cost (label.amount + number_at state.ground.low.fees label.node) label.hops
 
 -- the label at the index is settled
 abbrev pub IsSettledAt : State → ℕ → Type 0

@@ -8,15 +8,6 @@ use Rattle.lgm_c.specs.inner.Following.{Fails}
 use Rattle.lgm_c.proofs.Unwanted.{told}
 use Rattle.lgm_c.proofs.wanted.write_wanted.Goals as goal
 
-pub returns-in_err-evidence : goal.returns-in_err-evidence
-returns-in_err-evidence c =
-    let rows = c.args.map.now in
-    let bytes = c.args.bytes.now in
-    let other : Point = record { 0 = c.args.signer.now } in
-    told (TakesMemory bytes) (wanted c.args.chain.now rows bytes other) (key_in (right_verdicts rows bytes other).sig other)
-    c.in_err-evidence.field-0.0 c.from_residual.result c.args.signer.now
-    (c.in_err-evidence.ensures.refused c.args.chain.now) c.from_residual.ensures.1
-
 pub returns-in_err-verdict : goal.returns-in_err-verdict
 returns-in_err-verdict c =
     let rows = c.args.map.now in
@@ -25,4 +16,4 @@ returns-in_err-verdict c =
     told (TakesMemory bytes) (wanted c.args.chain.now rows bytes other) (key_in (right_verdicts rows bytes other).sig other)
     c.in_err-verdict.field-0.0 c.from_residual-in_err-verdict.result c.args.signer.now
     (subst (λ (evidence : Evidence). Fails (TakesMemory bytes) (offered_to c.args.chain.now rows bytes evidence) c.in_err-verdict.field-0.0)
-    c.in_ok-evidence.ensures.right c.in_err-verdict.ensures.refused) c.from_residual-in_err-verdict.ensures.1
+    c.right_verdicts.ensures c.in_err-verdict.ensures.refused) c.from_residual-in_err-verdict.ensures.1

@@ -18,3 +18,27 @@ mark-requires-2-clause-settled g c =
 pub returns-clause-extends : goal.returns-clause-extends
 returns-clause-extends g c =
     extends-trans c.args.self.now c.close.new.self c.mark-2.new.self c.in_ok-close.ensures.extends c.in_ok-mark-2.ensures.extends
+
+pub returns-in_err-close-clause-pruned : goal.returns-in_err-close-clause-pruned
+returns-in_err-close-clause-pruned g c pruned =
+    let s = c.args.self.now in
+    let least = c.cost_lower_bound.ensures ∙ ap (λ l. cost (l.amount + number_at s.ground.low.fees l.node) l.hops) c.label-label.ensures.label in
+    absurd (omega (arith, least, c.bound.ensures.exact, c.if-bound-cost_lower_bound.false, pruned))
+
+pub returns-then-is_done-2-clause-pruned : goal.returns-then-is_done-2-clause-pruned
+returns-then-is_done-2-clause-pruned g c pruned =
+    let s = c.args.self.now in
+    let least = c.cost_lower_bound.ensures ∙ ap (λ l. cost (l.amount + number_at s.ground.low.fees l.node) l.hops) c.label-label.ensures.label in
+    absurd (omega (arith, least, c.bound.ensures.exact, c.if-bound-cost_lower_bound.false, pruned))
+
+pub returns-in_err-mark-2-clause-pruned : goal.returns-in_err-mark-2-clause-pruned
+returns-in_err-mark-2-clause-pruned g c pruned =
+    let s = c.args.self.now in
+    let least = c.cost_lower_bound.ensures ∙ ap (λ l. cost (l.amount + number_at s.ground.low.fees l.node) l.hops) c.label-label.ensures.label in
+    absurd (omega (arith, least, c.bound.ensures.exact, c.if-bound-cost_lower_bound.false, pruned))
+
+pub returns-clause-pruned : goal.returns-clause-pruned
+returns-clause-pruned g c pruned =
+    let s = c.args.self.now in
+    let least = c.cost_lower_bound.ensures ∙ ap (λ l. cost (l.amount + number_at s.ground.low.fees l.node) l.hops) c.label-label.ensures.label in
+    absurd (omega (arith, least, c.bound.ensures.exact, c.if-bound-cost_lower_bound.false, pruned))

@@ -1,0 +1,83 @@
+#!/usr/bin/env python3
+"""Runs tests of crates with one request for memory refused, and then the next one, until none is left to refuse.
+
+    python3 tests/memory.py
+
+A test of the crates can't refuse memory itself. These are written so that they pass wherever one request is refused: a
+call that returns out of memory has left all as before, and gives its right answer when it is called again. They are the
+programs that `rt ci` leaves in `crates/NAME/out`, built of what was proved. It needs the GNU C library and a C compiler
+(`cc`). Without one, or where `rt ci` wasn't run, so that none of the programs is there, it is left out, with status 77.
+"""
+
+import os
+import shutil
+import subprocess
+import sys
+import tempfile
+from pathlib import Path
+
+HERE = Path(__file__).resolve().parent
+CRATES = HERE.parent / "crates"
+TESTS = (
+    ("lgm_message_tests", "wire::memory_refused"),
+    ("lgm_unit_tests", "tests::publish::refused::nothing_is_lost"),
+    ("lgm_overlay_tests", "tests::memory::refused_memory"),
+    ("lgm_route_tests", "tests::refused::refused_memory"),
+    ("lgm_worked_tests", "tests::faults::refused_memory"),
+    ("lgm_worked_tests", "tests::views::refused_memory"),
+    ("lgm_live_tests", "routes::refused_memory"),
+    ("lgm_start_tests", "deciding::refused_memory_has_its_line"),
+)
+# Each run takes some milliseconds.
+SECONDS = 20
+
+
+def passes(program, name, more):
+    """Whether a test passes, with these variables in its environment."""
+    ran = subprocess.run([program, name], stdin=subprocess.DEVNULL, stdout=subprocess.DEVNULL, stderr=subprocess.DEVNULL,
+                         timeout=SECONDS, check=False, env={**os.environ, **more})
+    return ran.returncode == 0
+
+
+def refuse_each(shim, mark, program, name):
+    """Refuses each request in turn. Returns how many there were, and with which of them refused the test fails."""
+    call, wrong = 0, []
+    while True:
+        call += 1
+        mark.unlink(missing_ok=True)
+        is_well = passes(program, name, {
+            "LD_PRELOAD": str(shim), "REFUSE": "memory", "REFUSE_CALL": str(call), "REFUSED": str(mark)})
+        if not mark.exists():
+            return call - 1, wrong if is_well else [*wrong, 0]
+        if not is_well:
+            wrong.append(call)
+
+
+def main():
+    """Runs each test."""
+    if not shutil.which("cc"):
+        print("left out: tests/memory.py, which needs cc")
+        return 77
+    programs = {crate: CRATES / crate / "out" / f"{crate}_tests" for crate, _ in TESTS}
+    if not any(it.exists() for it in programs.values()):
+        print("left out: tests/memory.py, which runs what rt ci builds")
+        return 77
+    good = True
+    with tempfile.TemporaryDirectory() as name:
+        folder = Path(name)
+        shim = folder / "refuse.so"
+        subprocess.run(["cc", "-O1", "-shared", "-fPIC", "-o", shim, HERE / "refuse.c", "-ldl"], check=True)
+        for crate, test in TESTS:
+            program = programs[crate]
+            if not program.exists():
+                print(f"{crate}: {program.name} isn't built")
+                good = False
+                continue
+            count, wrong = refuse_each(shim, folder / "refused", program, test)
+            good = good and not wrong and count > 0
+            print(f"{crate}, {test}: refused {count}" + (f", FAILED at {', '.join(map(str, wrong))}" if wrong else ""))
+    return 0 if good else 1
+
+
+if __name__ == "__main__":
+    sys.exit(main())
