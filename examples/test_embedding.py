@@ -408,6 +408,12 @@ def test_one_class():
     report("lgm.py, one class", right)
 
 
+def test_dump():
+    """What a map has is written to a file and loaded again, and damaged files are told."""
+    words = [sys.executable, HERE / "python" / "test_dump.py"]
+    report("dump.py", subprocess.run(words, check=False).returncode == 0)
+
+
 def test_electrum():
     """Electrum's path finder over the library; it says so where it is left out."""
     words = [sys.executable, HERE / "electrum" / "test_path_finder.py"]
@@ -450,6 +456,7 @@ def main():
         test_threads()
         test_published()
         test_one_class()
+        test_dump()
         test_electrum()
         test_routes(out)
     return 0 if failures == 0 else 1
