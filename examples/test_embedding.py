@@ -86,6 +86,27 @@ def test_installed(prefix, folder):
     report(f"run, with liblgm.so.{version} alone", output(words) == b"")
 
 
+def block(first):
+    """The block of docs/embedding.md whose first line this is, without its indentation."""
+    page = (TOP / "docs" / "embedding.md").read_text()
+    lines = page[page.index(f"    {first}\n"):].splitlines()
+    ends = (place for place, line in enumerate(lines) if line and not line.startswith("    "))
+    return "".join(line[4:] + "\n" for line in lines[:next(ends)]).rstrip("\n") + "\n"
+
+
+def test_first_programs(out):
+    """The first programs of docs/embedding.md do what it says."""
+    (out / "first.c").write_text(block("#include <lgm.h>"))
+    words = ["cc", "-std=c11", "-Wall", "-Wextra", "-Werror", "-I", TOP / "include", out / "first.c", out / "liblgm.a"]
+    subprocess.run([*words, "-o", out / "first"], check=True)
+    said = block("$ cc first.c $(pkg-config --cflags --libs lgm) -o first && ./first").split("\n", 1)[1]
+    report("the first program in C", output([out / "first"]) == said.encode())
+    environment = {**os.environ, "PYTHONPATH": str(HERE / "python"), "PYTHONDONTWRITEBYTECODE": "1"}
+    words = [sys.executable, "-c", block("from lgm import ALL_FOUR, Map")]
+    ran = subprocess.run(words, env=environment, stdout=subprocess.PIPE, check=False)
+    report("the first program in Python", ran.stdout == said.encode().splitlines(keepends=True)[-1])
+
+
 def test_c(out):
     """The program in C answers scripts as `lgm` does."""
     for script in sorted(HERE.glob("*.txt")):
@@ -448,6 +469,7 @@ def main():
         sys.path.insert(0, str(HERE / "python"))
         test_exports(out)
         test_installed(prefix, out)
+        test_first_programs(out)
         test_c(out)
         test_faults(out)
         test_serve(out)

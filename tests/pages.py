@@ -40,6 +40,10 @@ OUTSIDE = set("""
     query_channel_range reply_channel_range gossip_timestamp_filter amt_to_forward outgoing_cltv_value payment_data
     payment_metadata short_channel_id tu16 tu32 tu64 fd fe ff c1 end d1 u64
     ns/byte specs/declared network.txt out/ examples/out crates/lgm/out/lgm kept.txt shorter.txt ping KIT-ID
+    temporary_channel_failure permanent_channel_failure unknown_next_peer channel_disabled fee_insufficient
+    required_channel_feature_missing temporary_node_failure permanent_node_failure required_node_feature_missing
+    incorrect_cltv_expiry amount_below_minimum expiry_too_soon expiry_too_far incorrect_or_unknown_payment_details
+    basic_mpp encrypted_recipient_data gossip_queries gossip_queries_ex warning
     create_route_from_path memcpy memmove memset malloc realloc free cc ar slab valgrind
 """.split())
 
