@@ -4,14 +4,17 @@
     LGM_LIBRARY=examples/out/liblgm.so python3 examples/electrum/test_path_finder.py [--payments N] [--seed N]
 
 The map has what the wallet's database has, field by field. Of each payment: the wallet accepts the path that is found,
-builds the same payloads, and finds no path by itself over which the payer sends less. Then, by routes that are worked
-out here: the map follows the wallet's database, and takes its own channels, route hints and failures into account. It continues in the system's Python if that has Electrum's
-package. Without the package it is left out, with status 77.
+builds the same payloads, and finds no path by itself over which the payer sends less. So it is over 20 more networks for a
+wallet without public channels and invoices with route hints, also when a payment is tried again without what failed, and no
+peer sees anything of it; and there the route is that of second_opinion.py. Then, by routes that are worked out here: the map
+follows the wallet's database, and payments take its own channels, route hints and failures into account. It continues in
+the system's Python if that has Electrum's package. Without the package it is left out, with status 77.
 """
 
 from __future__ import annotations
 
 import argparse
+import random
 import sys
 import tempfile
 import time
@@ -28,10 +31,13 @@ if not interpreter.goes_on_with_electrum():
 from electrum import channel_db, constants, lnmsg, lnrouter, lnworker, network
 
 import path_finder
-from comparing import compared
+from comparing import AMOUNTS, Payment, compare, compared
 from offline import Messages, Offline, made_network
+from route_map import lgm, number
+from second_opinion import ForgingPayment
 
 CHANNELS = (56, 562, 5_625)  # of 20, 200 and 2,000 nodes
+NETWORKS, PRIVATE_PAYMENTS, TRIES = 20, 5, 6  # of a wallet without public channels
 A, B, C, D, E = (b"\x02" + bytes([letter]) * 32 for letter in (10, 11, 12, 13, 14))
 MSAT = 1_000_000
 NOW = int(time.time()) - 1_000
@@ -88,6 +94,10 @@ class OwnChannel:
     def can_pay(self, amount_msat, *, check_frozen):
         """Whether so much can be sent."""
         return check_frozen and amount_msat <= self._can_send
+
+    def available_to_spend(self, _):
+        """What can be sent."""
+        return self._can_send
 
     def get_local_pubkey(self):
         """The payer."""
@@ -152,7 +162,7 @@ def the_map_follows_the_database(case):
         database._policies[(start, own)] = policy._replace(timestamp=NOW - 30 * DAY)
     database.prune_old_policies(14 * DAY)
     assert case.path() == OVER_C and len(database.routes) == 4
-    found = database.routes._map.channel(int.from_bytes(AB, "big"))
+    found = database.routes.map.channel(int.from_bytes(AB, "big"))
     assert (found.from_1, found.from_2) == (None, None)
     database.prune_orphaned_channels()
     assert case.path() == OVER_C and len(database.routes) == 3 and len(updates) == 2
@@ -200,17 +210,49 @@ def own_channels_and_hints_are_used(case):
 
 
 def a_hint_bans_nobody(case):
-    """A hint with the id of a public channel, between other nodes, and one that isn't between two nodes; and another
-    announcement of that id."""
+    """A hint with the id of a public channel, between other nodes or the same ones, and one that isn't between two nodes; and
+    another announcement of that id."""
     case.offline.fill(case.database, square())
     case.database.routes.announce(announcement(AB, C, E))
-    for start, end in ((C, E), (E, E), (b"\5" + bytes(32), E)):
+    before = case.database.routes.map.version
+    for start, end in ((C, E), (A, B), (E, E), (b"\5" + bytes(32), E)):
         edge = lnrouter.RouteEdge(start_node=start, end_node=end, short_channel_id=AB, fee_base_msat=0,
                                   fee_proportional_millionths=0, cltv_expiry_delta=0, node_features=0)
-        with case.database.routes.payment() as payment:
-            for own in path_finder.hinted_channels({AB: edge, AA: edge}):
-                payment.add(own)
-    assert len(case.database.routes) == 4 and case.path() == OVER_B
+        for hints in ({AB: edge}, {AA: edge}, {AB: edge, AA: edge}):
+            assert case.path(private_route_edges=hints) == OVER_B
+            assert case.path(payee=E, private_route_edges=hints) == (
+                ([AC, AA], MSAT) if AA in hints and start == C else None)
+    assert len(case.database.routes) == 4 and case.database.routes.map.version == before
+
+
+def a_payment_is_no_news(case):
+    """What peers are told is what the wallet has, before and after a payment with own channels, hints and failures."""
+    case.offline.fill(case.database, square())
+    network, chain = case.database.routes.map, constants.net.rev_genesis_bytes()
+    everything = b"\1\t" + chain + bytes(4) + b"\xff" * 4
+    wanted = [(channel, *[message for message, _ in updates]) for (channel, _), updates in (
+        both(AB, A, B), both(BD, B, D, 1_000), both(AC, A, C), both(CD, C, D, 2_000))]
+    before, version = network.filter(everything), network.version
+    assert sorted(before) == sorted(message for messages in wanted for message in messages) and version == len(before)
+    network.mark()
+    payer, own_scid = b"\3" + bytes(32), scid(7)
+    hint = lnrouter.RouteEdge(start_node=D, end_node=E, short_channel_id=DE, fee_base_msat=700,
+                              fee_proportional_millionths=0, cltv_expiry_delta=40, node_features=0)
+    asked = {"payer": payer, "payee": E, "private_route_edges": {DE: hint},
+             "my_sending_channels": {own_scid: OwnChannel(own_scid, payer, B, 10 * MSAT)}}
+    assert case.path(**asked) == ([own_scid, BD, DE], MSAT + 1_700)
+    case.finder.liquidity_hints.add_to_blacklist(BD)
+    assert case.path(**asked) is None
+    assert network.filter(everything) == before and network.news(everything) == [] and network.version == version
+    asked_for = lnmsg.encode_msg("query_short_channel_ids", chain_hash=chain, len=17,
+                                 encoded_short_ids=b"\0" + own_scid + DE)
+    [end] = network.query(asked_for)
+    assert end[:2] == b"\1\x06"
+    database = case.database  # a direction that is pruned is no news either
+    policy = database._policies[(A, AB)]
+    database._policies[(A, AB)] = policy._replace(timestamp=NOW - 30 * DAY)
+    database.prune_old_policies(14 * DAY)
+    assert network.news(everything) == [] and len(network.filter(everything)) == len(before) - 1
 
 
 def a_route_does_not_take_too_long(case):
@@ -270,13 +312,13 @@ def terms(found):
 def the_map_has_the_wallets_rows(database):
     """Each channel, direction and node that the wallet's database has, field by field."""
     for own, channel in database._channels.items():
-        found = database.routes._map.channel(int.from_bytes(own, "big"))
+        found = database.routes.map.channel(int.from_bytes(own, "big"))
         assert (found.node_1, found.node_2) == (channel.node1_id, channel.node2_id)
         assert found.capacity_sat == channel.capacity_sat
         policies = [database.get_policy_for_node(own, node) for node in (channel.node1_id, channel.node2_id)]
         assert [terms(found.from_1), terms(found.from_2)] == list(map(terms, policies)), own.hex()
     for point, node in database._nodes.items():
-        found = database.routes._map.node(point)
+        found = database.routes.map.node(point)
         assert (found.timestamp, found.alias.rstrip(b"\0").decode()) == (node.timestamp, node.alias)
 
 
@@ -292,6 +334,104 @@ def faults_are_noticed(one):
             ({"found": None, "wallets": ours, "is_other": False}, "the wallet finds a path, and we don't"),
             ({"route": 21 * one.route}, "the wallet doesn't accept the route")):
         assert one._replace(**changed).faults() == [why], (changed, one._replace(**changed).faults())
+
+
+class PrivateWallet:
+    """A wallet without public channels over a made network, and an invoice of a payee that has none either."""
+
+    def __init__(self, database, drawn, amount):
+        nodes = sorted(point for point, channels in database._channels_for_node.items() if channels)
+        self.payer, self.payee, first = b"\3" + drawn.randbytes(32), b"\2" + drawn.randbytes(32), 10_000_000
+        peers, entries = drawn.sample(nodes, 3), drawn.sample(nodes, 2)
+        self.own = {scid(first + place): OwnChannel(scid(first + place), self.payer, peer, drawn.choice((1, 2, 9)) * amount)
+                    for place, peer in enumerate(peers)}
+        self.hints = {scid(first + place): lnrouter.RouteEdge(
+            start_node=entry, end_node=self.payee, short_channel_id=scid(first + place), cltv_expiry_delta=40,
+            fee_base_msat=drawn.randrange(2_000), fee_proportional_millionths=drawn.randrange(1_000), node_features=0)
+            for place, entry in enumerate(entries, 3)}
+        self.known = {"my_sending_channels": self.own, "private_route_edges": self.hints}
+        self.payment = Payment(self.payer, self.payee, amount, drawn.randbytes(32))
+
+
+def used(hop, failed):
+    """Whether a hop is one that failed: a channel on the wallet's list, or a direction with an amount that it couldn't send."""
+    listed, cannot_send = failed
+    own = path_finder.scid_of(hop)
+    return own in listed or hop.amount_msat >= cannot_send.get((own, hop.start), hop.amount_msat + 1)
+
+
+def tried_again(case, wallet, drawn):
+    """A payment, again and again without what failed. The routes."""
+    wallets = lnrouter.LNPathFinder(case.database)
+    case.finder.liquidity_hints = wallets.liquidity_hints  # new ones
+    failed, routes = (set(), {}), []
+    for _ in range(TRIES):
+        one = compare(case.finder, wallets, wallet.payment, **wallet.known)
+        assert not one.faults(), (one.faults(), one)
+        if one.found is None:
+            break
+        hops = one.found.hops
+        assert not any(used(hop, failed) for hop in hops), (failed, hops)
+        assert not routes or one.found.sent_msat >= routes[-1].sent_msat
+        assert wallet.own[path_finder.scid_of(hops[0])].can_pay(hops[0].amount_msat, check_frozen=True)
+        routes.append(one.found)
+        hop = hops[drawn.randrange(1, len(hops))]
+        channel = path_finder.scid_of(hop)
+        if drawn.randrange(2):
+            case.finder.liquidity_hints.add_to_blacklist(channel)
+            failed[0].add(channel)
+        else:
+            case.finder.update_liquidity_hints(one.route, wallet.payment.amount_msat, failing_channel=channel)
+            failed[1][channel, hop.start] = wallet.payment.amount_msat
+    return routes
+
+
+def second_opinions_agree(case, wallet, drawn):
+    """The same routes over a map into which the private channels are put, each again without a direction. How many."""
+    routes, payment = case.database.routes, (*wallet.payment[:3], 700_000, wallet.payment.secret)
+    edges = path_finder.own_channels(wallet.payer, wallet.own) + path_finder.hinted_channels(wallet.hints)
+    limits, count = [], 0
+    with ForgingPayment(routes, constants.net.rev_genesis_bytes()) as forging:
+        for edge in edges:
+            forging.add(edge)
+        forged = []
+        for _ in range(TRIES):
+            forged.append(forging.route(*payment))
+            if not forged[-1]:
+                break
+            hop = drawn.choice(forged[-1].hops)
+            limits.append(lgm.Limit(hop.scid, hop.start))
+            forging.take_out(hop.scid, hop.start)
+    for place, wanted in enumerate(forged):
+        found = routes.route(*payment, edges=edges, limits=limits[:place], silent=[wallet.payer])
+        assert found == wanted, (place, found, wanted)
+        count += found is not None
+    return count
+
+
+def a_wallet_without_public_channels_pays(offline, folder, seed):
+    """Payments over made networks by a wallet that has private channels alone, to payees that have route hints."""
+    paid, tries, opinions = 0, 0, 0
+    for number_of_network in range(NETWORKS):
+        drawn = random.Random(f"{seed} {number_of_network}")
+        case = Case(offline, folder / f"private-{number_of_network}")
+        case.offline.fill(case.database, made_network(CHANNELS[1], 1_000 * seed + number_of_network))
+        network = case.database.routes.map
+        everything = b"\1\t" + constants.net.rev_genesis_bytes() + bytes(4) + b"\xff" * 4
+        before, version = network.filter(everything), network.version
+        wallets = [PrivateWallet(case.database, drawn, drawn.choice(AMOUNTS)) for _ in range(PRIVATE_PAYMENTS)]
+        for wallet in wallets:
+            routes = tried_again(case, wallet, drawn)
+            paid, tries = paid + bool(routes), tries + len(routes)
+        assert network.filter(everything) == before and network.version == version
+        for wallet in wallets:
+            opinions += second_opinions_agree(case, wallet, drawn)
+        assert network.filter(everything) == before
+        offline.stop(case.database)
+    count = NETWORKS * PRIVATE_PAYMENTS
+    assert paid > count / 2 and tries > 2 * paid and opinions > paid, (paid, tries, opinions)
+    print(f"a wallet without public channels makes {paid} of {count} payments over {NETWORKS} networks, by {tries} routes that "
+          f"the wallet takes; a second opinion agrees on {opinions} more")
 
 
 def payments_agree(offline, folder, count, seed):
@@ -320,14 +460,15 @@ def main():
     parser.add_argument("--seed", type=int, default=1, metavar="N", help="of networks and payments; 1 if left out")
     options = parser.parse_args()
     tests = (the_map_follows_the_database, the_map_is_there_after_a_restart, what_failed_is_avoided,
-             own_channels_and_hints_are_used, a_hint_bans_nobody, a_route_does_not_take_too_long, a_minimum_is_held_against_the_amount,
-             the_wallet_makes_ours)
+             own_channels_and_hints_are_used, a_hint_bans_nobody, a_payment_is_no_news, a_route_does_not_take_too_long,
+             a_minimum_is_held_against_the_amount, the_wallet_makes_ours)
     with tempfile.TemporaryDirectory() as name, Offline(name) as offline:
         folder = Path(name)
         for test in tests:
             test(Case(offline, folder / test.__name__))
         payments_agree(offline, folder, options.payments, options.seed)
-    print(f"{len(tests) + 1} passed")
+        a_wallet_without_public_channels_pays(offline, folder, options.seed)
+    print(f"{len(tests) + 2} passed")
 
 
 if __name__ == "__main__":
