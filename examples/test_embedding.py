@@ -431,7 +431,7 @@ def test_one_class():
 
 
 def test_pruning():
-    """The recipe of docs/operating.md closes the channels with an update that is two weeks old, and keeps their times."""
+    """The recipe of docs/operating.md closes the channels whose updates are two weeks old, and keeps their times."""
     import lgm
 
     lines = (line.split() for line in made_script("sync").decode().splitlines())
@@ -439,7 +439,7 @@ def test_pruning():
     channels, _ = announced(items)
     times = {scid: [terms[0] for terms in channel[3:] if terms] for scid, channel in channels.items()}
     newest = max(max(own, default=0) for own in times.values())
-    old = {scid: max(own) for scid, own in times.items() if own and min(own) < newest - 7 * 86_400}
+    old = {scid: max(own) for scid, own in times.items() if own and max(own) < newest - 7 * 86_400}
     with lgm.Map(bytes.fromhex(CHAIN)) as network:
         for message, sig, funding in items:
             network.offer(
