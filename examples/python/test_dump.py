@@ -144,6 +144,16 @@ def each_cut_is_found(file):
         assert fault(dump.read, twice).startswith(f"record {place}, at byte {ends[place]}: ")
 
 
+def the_count_is_held(file):
+    """A file whose end tells another number of records, with the right checksum, is refused."""
+    header = b"lgm map\n\0\0\0\1"
+    for count in (0, 1):
+        end = b"\0\0\0" + count.to_bytes(8, "big")
+        file.write_bytes(header + end + zlib.crc32(header + end).to_bytes(4, "big"))
+        why = fault(dump.read, file.read_bytes())
+        assert why == ("record 0, at byte 12: the number of records is another one" if count else None)
+
+
 def what_a_map_refuses_is_told(file):
     """A whole file of another chain is refused by the record, and leaves no map."""
     closed = []
@@ -157,8 +167,10 @@ def what_a_map_refuses_is_told(file):
         dump.dump(network, file)
     real, lgm.Map = lgm.Map, Watched
     try:
-        assert fault(dump.load, file, b"\xc2" * 32) == "record 0, at byte 12: chain"
-        assert len(closed) >= 1
+        dump.load(file, b"\xc2" * 32)
+        raise AssertionError("loaded")
+    except dump.BadDump as why:  # as long as this has it, nothing else closes the map
+        assert str(why) == "record 0, at byte 12: chain" and len(closed) == 1
     finally:
         lgm.Map = real
 
@@ -221,7 +233,7 @@ def the_program_tells_what_a_file_has(file):
 def main():
     """Runs each test over a file of its own."""
     tests = (a_file_is_laid_out_as_told, a_map_is_loaded_as_it_was, each_changed_bit_is_found, each_cut_is_found,
-             what_a_map_refuses_is_told, nothing_is_lost, the_program_tells_what_a_file_has)
+             the_count_is_held, what_a_map_refuses_is_told, nothing_is_lost, the_program_tells_what_a_file_has)
     with tempfile.TemporaryDirectory() as folder:
         for test in tests:
             test(Path(folder, "map"))
