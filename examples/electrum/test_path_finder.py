@@ -32,7 +32,7 @@ from electrum import channel_db, constants, lnmsg, lnrouter, lnworker, network
 
 import path_finder
 from comparing import AMOUNTS, Payment, compare, compared
-from offline import Messages, Offline, made_network
+from offline import FEATURES, Messages, Offline, made_network
 from route_map import lgm, number
 from second_opinion import ForgingPayment
 
@@ -242,6 +242,8 @@ def a_payment_is_no_news(case):
              "my_sending_channels": {own_scid: OwnChannel(own_scid, payer, B, 10 * MSAT)}}
     assert case.path(**asked) == ([own_scid, BD, DE], MSAT + 1_700)
     case.finder.liquidity_hints.add_to_blacklist(BD)
+    assert case.path(**asked) == ([own_scid, AB, AC, CD, DE], MSAT + 7_700)
+    case.finder.liquidity_hints.add_to_blacklist(CD)
     assert case.path(**asked) is None
     assert network.filter(everything) == before and network.news(everything) == [] and network.version == version
     asked_for = lnmsg.encode_msg("query_short_channel_ids", chain_hash=chain, len=17,
@@ -347,7 +349,8 @@ class PrivateWallet:
                     for place, peer in enumerate(peers)}
         self.hints = {scid(first + place): lnrouter.RouteEdge(
             start_node=entry, end_node=self.payee, short_channel_id=scid(first + place), cltv_expiry_delta=40,
-            fee_base_msat=drawn.randrange(2_000), fee_proportional_millionths=drawn.randrange(1_000), node_features=0)
+            fee_base_msat=drawn.randrange(2_000), fee_proportional_millionths=drawn.randrange(1_000),
+            node_features=int.from_bytes(FEATURES, "big"))  # with those of the invoice, as the wallet has them
             for place, entry in enumerate(entries, 3)}
         self.known = {"my_sending_channels": self.own, "private_route_edges": self.hints}
         self.payment = Payment(self.payer, self.payee, amount, drawn.randbytes(32))
