@@ -18,6 +18,7 @@ import random
 import sys
 import tempfile
 import time
+from math import inf
 from pathlib import Path
 
 sys.dont_write_bytecode = True  # the repository gets no made files
@@ -209,6 +210,24 @@ def own_channels_and_hints_are_used(case):
     assert case.path(payer=payer) is None and len(case.database.routes) == 4
 
 
+def other_channels_of_the_payer_are_not_used(case):
+    """Where the wallet lists the payer's channels, a public one that isn't listed, as it is closing, isn't used."""
+    case.offline.fill(case.database, square())
+    own = {AC: OwnChannel(AC, A, C, 2 * MSAT)}
+    assert case.path() == OVER_B and case.path(my_sending_channels=own) == OVER_C
+    assert case.path(my_sending_channels={}) is None
+
+
+def what_the_wallet_would_not_use_is_left_out(case):
+    """A channel of which one direction alone has an update, which the wallet's cost function refuses."""
+    messages = square()
+    case.offline.fill(case.database, messages._replace(updates=[
+        one for one in messages.updates if one != (update(BD, D, B, 6_000), D)]))
+    assert case.path() == OVER_C
+    case.offline.fill(case.database, Messages([], [(update(BD, D, B, 6_000), D)], []))
+    assert case.path() == OVER_B
+
+
 def a_hint_bans_nobody(case):
     """A hint with the id of a public channel, between other nodes or the same ones, and one that isn't between two nodes; and
     another announcement of that id."""
@@ -363,6 +382,14 @@ def used(hop, failed):
     return own in listed or hop.amount_msat >= cannot_send.get((own, hop.start), hop.amount_msat + 1)
 
 
+def costs(finder, hop, wallet):
+    """What a hop costs by the wallet's own measure."""
+    cost, _ = finder._edge_cost(
+        short_channel_id=path_finder.scid_of(hop), start_node=hop.start, end_node=hop.end, payment_amt_msat=hop.amount_msat,
+        my_channels=wallet.own, private_route_edges=wallet.hints)
+    return cost
+
+
 def tried_again(case, wallet, drawn):
     """A payment, again and again without what failed. The routes."""
     wallets = lnrouter.LNPathFinder(case.database)
@@ -377,6 +404,7 @@ def tried_again(case, wallet, drawn):
         assert not any(used(hop, failed) for hop in hops), (failed, hops)
         assert not routes or one.found.sent_msat >= routes[-1].sent_msat
         assert wallet.own[path_finder.scid_of(hops[0])].can_pay(hops[0].amount_msat, check_frozen=True)
+        assert all(costs(wallets, hop, wallet) < inf for hop in hops[1:])
         routes.append(one.found)
         hop = hops[drawn.randrange(1, len(hops))]
         channel = path_finder.scid_of(hop)
@@ -463,8 +491,9 @@ def main():
     parser.add_argument("--seed", type=int, default=1, metavar="N", help="of networks and payments; 1 if left out")
     options = parser.parse_args()
     tests = (the_map_follows_the_database, the_map_is_there_after_a_restart, what_failed_is_avoided,
-             own_channels_and_hints_are_used, a_hint_bans_nobody, a_payment_is_no_news, a_route_does_not_take_too_long,
-             a_minimum_is_held_against_the_amount, the_wallet_makes_ours)
+             own_channels_and_hints_are_used, other_channels_of_the_payer_are_not_used,
+             what_the_wallet_would_not_use_is_left_out, a_hint_bans_nobody, a_payment_is_no_news,
+             a_route_does_not_take_too_long, a_minimum_is_held_against_the_amount, the_wallet_makes_ours)
     with tempfile.TemporaryDirectory() as name, Offline(name) as offline:
         folder = Path(name)
         for test in tests:
