@@ -294,21 +294,22 @@ fn node(number: u16) -> [u8; 33] {
     point
 }
 
-/// Edges from A to nine pairs of edges in a row. The first node charges 1,000,000 msat or delays by 60,000 blocks, and is
-/// followed by 3,000 nodes side by side. Each pair is a free edge that delays by 1, 2, 4 .. 256 blocks, and one that charges
-/// as many msat.
+/// Edges from A to eight pairs of edges in a row. The first node charges 1,000,000 msat, or delays by 600 blocks and so does
+/// the next one; then there are 6,000 nodes side by side. Each pair is a free edge that delays by 1, 2, 4 .. 128 blocks, and
+/// one that charges as many msat.
 fn wide_network(alloc: Global) -> Result<Vec<LgmEdge>, AllocError> {
     let mut edges = Vec::new(alloc);
     edges.push(edge(1, A, node(0), 0, 0))?;
     edges.push(edge(2, node(0), node(1), 1_000_000, 0))?;
-    edges.push(edge(3, node(0), node(1), 0, 60_000))?;
-    for side in 0..3_000u16 {
+    edges.push(edge(3, node(0), node(50), 0, 600))?;
+    edges.push(edge(3, node(50), node(1), 0, 600))?;
+    for side in 0..6_000u16 {
         let scid = 10 + 2 * u64::from(side);
         edges.push(edge(scid, node(1), node(100 + side), 0, 0))?;
         edges.push(edge(scid + 1, node(100 + side), node(2), 0, 0))?;
     }
-    for stage in 0..9u16 {
-        let (scid, blocks) = (10_000 + 2 * u64::from(stage), 1u16 << stage);
+    for stage in 0..8u16 {
+        let (scid, blocks) = (100_000 + 2 * u64::from(stage), 1u16 << stage);
         let (from, to) = (node(2 + stage), node(3 + stage));
         edges.push(edge(scid, from, to, 0, blocks))?;
         edges.push(edge(scid + 1, from, to, u32::from(blocks), 0))?;
@@ -316,9 +317,9 @@ fn wide_network(alloc: Global) -> Result<Vec<LgmEdge>, AllocError> {
     Ok(edges)
 }
 
-/// Within 1,008 blocks each of the nodes side by side has 512 ways to the payee, of which none is cheaper and quicker than
-/// another, and all of which are cheaper than what the first node charges. These are 1,536,000 labels. Within 60,511 blocks the
-/// best route of all is one, and so it is within 1,008 without the edge that delays by 60,000.
+/// Within 1,008 blocks each of the nodes side by side has 256 ways to the payee, of which none is cheaper and quicker than
+/// another, and all of which are cheaper than what the first node charges. These are 1,536,000 labels. Within 1,455 blocks the
+/// best route of all is one, and so it is within 1,008 without the edges that delay by 600.
 #[test]
 fn undecided(rt: HostRuntime) -> Result<(), Fail> {
     let alloc = rt.alloc();
@@ -328,17 +329,17 @@ fn undecided(rt: HostRuntime) -> Result<(), Fail> {
         edges: edges.as_slice(),
         ..NOTHING
     };
-    let payee = node(11);
+    let payee = node(10);
     assert_answer(&rt, alloc, &mut maps, payee, over, 1_008, refusal(26));
-    let free = (0, 13, 1, 10_000, 760_511);
-    assert_answer(&rt, alloc, &mut maps, payee, over, 60_511, free);
+    let free = (0, 13, 1, 10_000, 701_455);
+    assert_answer(&rt, alloc, &mut maps, payee, over, 1_455, free);
     assert_answer(&rt, alloc, &mut maps, payee, over, ANY_DELAY, free);
     let slow = [limit(3, node(0), 0)];
     let over = Beside {
         limits: &slow,
         ..over
     };
-    let dear = (0, 13, 1, 1_010_000, 700_511);
+    let dear = (0, 12, 1, 1_010_000, 700_255);
     assert_answer(&rt, alloc, &mut maps, payee, over, 1_008, dear);
     free_both(alloc, &mut maps);
     Ok(())
