@@ -17,7 +17,6 @@ import sys
 import tempfile
 import threading
 from pathlib import Path
-from types import SimpleNamespace
 
 HERE = Path(__file__).resolve().parent
 TOP = HERE.parent
@@ -85,27 +84,6 @@ def test_installed(prefix, folder):
     report("run, with the shared object", found == (HERE / "payments.out").read_bytes())
     (prefix / "lib" / "liblgm.so").unlink()
     report(f"run, with liblgm.so.{version} alone", output(words) == b"")
-
-
-def block(first, name="embedding"):
-    """The block of a page whose first line this is, without its indentation."""
-    page = (TOP / "docs" / f"{name}.md").read_text()
-    lines = page[page.index(f"    {first}\n"):].splitlines()
-    ends = (place for place, line in enumerate(lines) if line and not line.startswith("    "))
-    return "".join(line[4:] + "\n" for line in lines[:next(ends)]).rstrip("\n") + "\n"
-
-
-def test_first_programs(out):
-    """The first programs of docs/embedding.md do what it says."""
-    (out / "first.c").write_text(block("#include <lgm.h>"))
-    words = ["cc", "-std=c11", "-Wall", "-Wextra", "-Werror", "-I", TOP / "include", out / "first.c", out / "liblgm.a"]
-    subprocess.run([*words, "-o", out / "first"], check=True)
-    said = block("$ cc first.c $(pkg-config --cflags --libs lgm) -o first && ./first").split("\n", 1)[1]
-    report("the first program in C", output([out / "first"]) == said.encode())
-    environment = {**os.environ, "PYTHONPATH": str(HERE / "python"), "PYTHONDONTWRITEBYTECODE": "1"}
-    words = [sys.executable, "-c", block("from lgm import ALL_FOUR, Map")]
-    ran = subprocess.run(words, env=environment, stdout=subprocess.PIPE, check=False)
-    report("the first program in Python", ran.stdout == said.encode().splitlines(keepends=True)[-1])
 
 
 def test_c(out):
@@ -577,56 +555,10 @@ def test_one_class():
     report("lgm.py, one class", right)
 
 
-def test_pruning():
-    """The recipe of docs/operating.md closes the channels whose updates are two weeks old, and keeps their times."""
-    import lgm
-
-    lines = (line.split() for line in made_script("sync").decode().splitlines())
-    items = [(bytes.fromhex(line[1]), *line[2:]) for line in lines if line[0] == "m"]
-    channels, _ = announced(items)
-    times = {scid: [terms[0] for terms in channel[3:] if terms] for scid, channel in channels.items()}
-    newest = max(max(own, default=0) for own in times.values())
-    old = {scid: max(own) for scid, own in times.items() if own and max(own) < newest - 7 * 86_400}
-    with lgm.Map(bytes.fromhex(CHAIN)) as network:
-        for message, sig, funding in items:
-            network.offer(
-                message, sig if sig == "all" else bytes.fromhex(sig), int(funding) if funding.isdigit() else funding)
-        names = {"network": network, "pruned": {}, "time": SimpleNamespace(time=lambda: newest + 7 * 86_400)}
-        exec(block("old = time.time() - 14 * 86_400", "operating"), names)
-        report("pruning", names["pruned"] == old and 0 < len(old) < CHANNELS
-               and list(network.channels()) == sorted(channels.keys() - old.keys()))
-
-
-def test_payment():
-    """The recipe of docs/operating.md, from an invoice to the second try, over the channels of examples/payments.txt."""
-    import lgm
-
-    def point(letter):
-        return b"\2" + bytes([letter]) * 32
-
-    def send(route):
-        sent.append(([hop.scid >> 40 for hop in route.hops], route.sent_msat, route.expiry))
-        return route.hops[1] if len(sent) == 1 else None
-
-    payer, payee, sent = point(1), point(2), []
-    hint = SimpleNamespace(scid=7 << 40, node=point(13), next=payee, base=700, millionths=0, delta=40)
-    invoice = SimpleNamespace(hints=[hint], payee=payee, msat=10_000_000, secret=bytes(32), min_final_cltv_expiry_delta=18)
-    channels = [SimpleNamespace(scid=scid << 40, peer=peer, can_send=can_send, is_connected=is_connected)
-                for scid, peer, can_send, is_connected in (
-                    (1, point(11), 11_000_000, True), (2, point(13), 10_000_699, True), (3, point(13), 11_000_000, False))]
-    names = {"network": None, "payer": payer, "channels": channels, "invoice": invoice, "height": 700_000, "most_fee": 10_000,
-             "send": send, "Edge": lgm.Edge, "Limit": lgm.Limit}
-    with lgm.Map(bytes.fromhex(CHAIN)) as names["network"]:
-        for line in (HERE / "payments.txt").read_text().splitlines():
-            if line.startswith("m "):
-                _, message, sig, funding = line.split()
-                names["network"].offer(bytes.fromhex(message), sig if sig == "all" else bytes.fromhex(sig),
-                                       funding if funding == "-" else int(funding))
-        exec(block("own = [Edge(c.scid, payer, c.peer, htlc_maximum_msat=c.can_send) for c in channels if c.is_connected]",
-                   "operating"), names)
-    # D takes 700. Then B takes 3,000 and 10 blocks; or C 500 and 300 ppm and 20 blocks, and B 1,000 and 200 ppm and 34.
-    report("a payment from an invoice on", sent == [
-        ([1, 600_003, 7], 10_003_700, 700_021 + 40 + 10), ([1, 600_001, 600_002, 7], 10_007_200, 700_021 + 40 + 20 + 34)])
+def test_recipes(out):
+    """The programs and recipes of the pages do what they say."""
+    words = [sys.executable, HERE / "test_recipes.py", out]
+    report("recipes", subprocess.run(words, check=False).returncode == 0)
 
 
 def test_dump():
@@ -669,7 +601,6 @@ def main():
         sys.path.insert(0, str(HERE / "python"))
         test_exports(out)
         test_installed(prefix, out)
-        test_first_programs(out)
         test_c(out)
         test_faults(out)
         test_serve(out)
@@ -680,8 +611,7 @@ def main():
         test_overlays()
         test_undecided()
         test_one_class()
-        test_pruning()
-        test_payment()
+        test_recipes(out)
         test_dump()
         test_electrum()
         test_routes(out)
