@@ -14,11 +14,9 @@ the system's Python if that has Electrum's package. Without the package it is le
 from __future__ import annotations
 
 import argparse
-import random
 import sys
 import tempfile
-import time
-from math import inf
+import threading
 from pathlib import Path
 
 sys.dont_write_bytecode = True  # the repository gets no made files
@@ -32,115 +30,13 @@ if not interpreter.goes_on_with_electrum():
 from electrum import channel_db, constants, lnmsg, lnrouter, lnworker, network
 
 import path_finder
-from comparing import AMOUNTS, Payment, compare, compared
-from offline import FEATURES, Messages, Offline, made_network
-from route_map import lgm, number
-from second_opinion import ForgingPayment
+from cases import (A, AA, AB, AC, B, BD, C, CD, D, DAY, DE, E, MSAT, NOW, OVER_B, OVER_C, Case, OwnChannel, announcement, both,
+                   scid, square, update)
+from comparing import compared
+from offline import PATIENCE, Messages, Offline, made_network
+from private_wallet import a_wallet_without_public_channels_pays
 
 CHANNELS = (56, 562, 5_625)  # of 20, 200 and 2,000 nodes
-NETWORKS, PRIVATE_PAYMENTS, TRIES = 20, 5, 6  # of a wallet without public channels
-A, B, C, D, E = (b"\x02" + bytes([letter]) * 32 for letter in (10, 11, 12, 13, 14))
-MSAT = 1_000_000
-NOW = int(time.time()) - 1_000
-DAY = 86_400
-
-
-def scid(block):
-    """The id of a channel of this block."""
-    return (block << 40 | 1 << 16).to_bytes(8, "big")
-
-
-AB, BD, AC, CD, DE, AA = map(scid, range(1, 7))
-
-
-def announcement(own_scid, one, other):
-    """A channel's announcement."""
-    first, second = sorted((one, other))
-    return lnmsg.encode_msg(
-        "channel_announcement", len=0, features=b"", chain_hash=constants.net.rev_genesis_bytes(), node_id_1=first,
-        node_id_2=second, short_channel_id=own_scid, bitcoin_key_1=A, bitcoin_key_2=B)
-
-
-def update(own_scid, start, end, base=0, delta=40, timestamp=NOW, minimum=0):
-    """The update of the direction from start to end."""
-    return lnmsg.encode_msg(
-        "channel_update", chain_hash=constants.net.rev_genesis_bytes(), short_channel_id=own_scid, timestamp=timestamp,
-        message_flags=b"\1", channel_flags=bytes([start > end]), cltv_expiry_delta=delta, fee_base_msat=base,
-        htlc_minimum_msat=minimum, htlc_maximum_msat=10**9)
-
-
-def both(own_scid, start, end, base=0, delta=40):
-    """A channel and both updates; the one from end to start is never cheaper."""
-    return (announcement(own_scid, start, end), None), [
-        (update(own_scid, start, end, base, delta), start), (update(own_scid, end, start, base + 5_000, delta), end)]
-
-
-def square():
-    """From A to D over B, who charges 1,000 msat, or over C, who charges 2,000."""
-    parts = [both(AB, A, B), both(BD, B, D, 1_000), both(AC, A, C), both(CD, C, D, 2_000)]
-    return Messages([channel for channel, _ in parts], [one for _, updates in parts for one in updates], [])
-
-
-class OwnChannel:
-    """A channel of the payer's, as far as a path finder asks the wallet about it."""
-
-    class constraints:
-        """What the wallet has of the funding."""
-
-        capacity = 1_000_000
-
-    def __init__(self, own_scid, payer, peer, can_send):
-        self.short_channel_id, self._payer, self.node_id, self._can_send = own_scid, payer, peer, can_send
-
-    def can_pay(self, amount_msat, *, check_frozen):
-        """Whether so much can be sent."""
-        return check_frozen and amount_msat <= self._can_send
-
-    def available_to_spend(self, _):
-        """What can be sent."""
-        return self._can_send
-
-    def get_local_pubkey(self):
-        """The payer."""
-        return self._payer
-
-    def construct_channel_announcement_without_sigs(self):
-        """The announcement that the channel would have."""
-        return announcement(self.short_channel_id, self._payer, self.node_id)
-
-    def get_outgoing_gossip_channel_update(self):
-        """The payer's terms."""
-        return update(self.short_channel_id, self._payer, self.node_id, 3_000)
-
-    def get_remote_update(self):
-        """The peer hasn't sent one."""
-        return None
-
-
-class Case:
-    """A path finder over the square, and what it finds."""
-
-    def __init__(self, offline, folder):
-        offline.config.path = str(folder)
-        folder.mkdir(exist_ok=True)
-        self.offline, self.database = offline, offline.database(path_finder.MappedChannelDB)
-        self.finder = path_finder.PathFinder(self.database)
-
-    def path(self, payer=A, payee=D, msat=MSAT, **more):
-        """The ids of the path, and what the payer sends."""
-        asked = {"nodeA": payer, "nodeB": payee, "invoice_amount_msat": msat, **more}
-        path = self.finder.find_path_for_payment(**asked)
-        if path is None:
-            return None
-        route = self.finder.find_payment(final_cltv=0, payment_secret=bytes(32), **asked)
-        assert all(isinstance(edge, lnrouter.PathEdge) for edge in path)
-        ends = [payer, *(edge.end_node for edge in path)]
-        assert ends[-1] == payee and ends[:-1] == [edge.start_node for edge in path]
-        assert [(edge.fee_base_msat, edge.node_id) for edge in self.finder.find_route(**asked)][-1][1] == payee
-        return [bytes(edge.short_channel_id) for edge in path], route.sent_msat
-
-
-OVER_B, OVER_C = ([AB, BD], MSAT + 1_000), ([AC, CD], MSAT + 2_000)
 
 
 def the_map_follows_the_database(case):
@@ -276,6 +172,29 @@ def a_payment_is_no_news(case):
     assert network.news(everything) == [] and len(network.filter(everything)) == len(before) - 1
 
 
+def a_payment_keeps_nobody_waiting(case):
+    """Between two searches of a payment another thread writes to the map, and pays."""
+    case.offline.fill(case.database, square())
+    found, real = [], case.finder._edge_cost
+
+    def write():
+        case.database.routes.update(update(BD, B, D, 3_000, timestamp=NOW + 100), B)
+        case.finder._edge_cost = real
+        found.append(case.path())
+
+    def cost(**asked):
+        if not found:
+            thread = threading.Thread(target=write)
+            thread.start()
+            thread.join(PATIENCE)
+            assert not thread.is_alive()
+        return real(**asked)
+
+    case.finder._edge_cost = cost
+    assert case.finder.find_payment(nodeA=A, nodeB=D, invoice_amount_msat=MSAT, final_cltv=0, payment_secret=bytes(32))
+    assert found == [OVER_C] and case.path() == OVER_C
+
+
 def a_route_does_not_take_too_long(case):
     """Over B each of two directions would take 2,000 blocks, so the payer would wait for 28 days."""
     parts = [both(AB, A, B), both(BD, B, C, 0, 2_000), both(CD, C, D, 0, 2_000), both(AC, A, E), both(DE, E, D, 4_000)]
@@ -357,114 +276,6 @@ def faults_are_noticed(one):
         assert one._replace(**changed).faults() == [why], (changed, one._replace(**changed).faults())
 
 
-class PrivateWallet:
-    """A wallet without public channels over a made network, and an invoice of a payee that has none either."""
-
-    def __init__(self, database, drawn, amount):
-        nodes = sorted(point for point, channels in database._channels_for_node.items() if channels)
-        self.payer, self.payee, first = b"\3" + drawn.randbytes(32), b"\2" + drawn.randbytes(32), 10_000_000
-        peers, entries = drawn.sample(nodes, 3), drawn.sample(nodes, 2)
-        self.own = {scid(first + place): OwnChannel(scid(first + place), self.payer, peer, drawn.choice((1, 2, 9)) * amount)
-                    for place, peer in enumerate(peers)}
-        self.hints = {scid(first + place): lnrouter.RouteEdge(
-            start_node=entry, end_node=self.payee, short_channel_id=scid(first + place), cltv_expiry_delta=40,
-            fee_base_msat=drawn.randrange(2_000), fee_proportional_millionths=drawn.randrange(1_000),
-            node_features=int.from_bytes(FEATURES, "big"))  # with those of the invoice, as the wallet has them
-            for place, entry in enumerate(entries, 3)}
-        self.known = {"my_sending_channels": self.own, "private_route_edges": self.hints}
-        self.payment = Payment(self.payer, self.payee, amount, drawn.randbytes(32))
-
-
-def used(hop, failed):
-    """Whether a hop is one that failed: a channel on the wallet's list, or a direction with an amount that it couldn't send."""
-    listed, cannot_send = failed
-    own = path_finder.scid_of(hop)
-    return own in listed or hop.amount_msat >= cannot_send.get((own, hop.start), hop.amount_msat + 1)
-
-
-def costs(finder, hop, wallet):
-    """What a hop costs by the wallet's own measure."""
-    cost, _ = finder._edge_cost(
-        short_channel_id=path_finder.scid_of(hop), start_node=hop.start, end_node=hop.end, payment_amt_msat=hop.amount_msat,
-        my_channels=wallet.own, private_route_edges=wallet.hints)
-    return cost
-
-
-def tried_again(case, wallet, drawn):
-    """A payment, again and again without what failed. The routes."""
-    wallets = lnrouter.LNPathFinder(case.database)
-    case.finder.liquidity_hints = wallets.liquidity_hints  # new ones
-    failed, routes = (set(), {}), []
-    for _ in range(TRIES):
-        one = compare(case.finder, wallets, wallet.payment, **wallet.known)
-        assert not one.faults(), (one.faults(), one)
-        if one.found is None:
-            break
-        hops = one.found.hops
-        assert not any(used(hop, failed) for hop in hops), (failed, hops)
-        assert not routes or one.found.sent_msat >= routes[-1].sent_msat
-        assert wallet.own[path_finder.scid_of(hops[0])].can_pay(hops[0].amount_msat, check_frozen=True)
-        assert all(costs(wallets, hop, wallet) < inf for hop in hops[1:])
-        routes.append(one.found)
-        hop = hops[drawn.randrange(1, len(hops))]
-        channel = path_finder.scid_of(hop)
-        if drawn.randrange(2):
-            case.finder.liquidity_hints.add_to_blacklist(channel)
-            failed[0].add(channel)
-        else:
-            case.finder.update_liquidity_hints(one.route, wallet.payment.amount_msat, failing_channel=channel)
-            failed[1][channel, hop.start] = wallet.payment.amount_msat
-    return routes
-
-
-def second_opinions_agree(case, wallet, drawn):
-    """The same routes over a map into which the private channels are put, each again without a direction. How many."""
-    routes, payment = case.database.routes, (*wallet.payment[:3], 700_000, wallet.payment.secret)
-    edges = path_finder.own_channels(wallet.payer, wallet.own) + path_finder.hinted_channels(wallet.hints)
-    limits, count = [], 0
-    with ForgingPayment(routes, constants.net.rev_genesis_bytes()) as forging:
-        for edge in edges:
-            forging.add(edge)
-        forged = []
-        for _ in range(TRIES):
-            forged.append(forging.route(*payment))
-            if not forged[-1]:
-                break
-            hop = drawn.choice(forged[-1].hops)
-            limits.append(lgm.Limit(hop.scid, hop.start))
-            forging.take_out(hop.scid, hop.start)
-    for place, wanted in enumerate(forged):
-        found = routes.route(*payment, edges=edges, limits=limits[:place], silent=[wallet.payer])
-        assert found == wanted, (place, found, wanted)
-        count += found is not None
-    return count
-
-
-def a_wallet_without_public_channels_pays(offline, folder, seed):
-    """Payments over made networks by a wallet that has private channels alone, to payees that have route hints."""
-    paid, tries, opinions = 0, 0, 0
-    for number_of_network in range(NETWORKS):
-        drawn = random.Random(f"{seed} {number_of_network}")
-        case = Case(offline, folder / f"private-{number_of_network}")
-        case.offline.fill(case.database, made_network(CHANNELS[1], 1_000 * seed + number_of_network))
-        network = case.database.routes.map
-        everything = b"\1\t" + constants.net.rev_genesis_bytes() + bytes(4) + b"\xff" * 4
-        before, version = network.filter(everything), network.version
-        wallets = [PrivateWallet(case.database, drawn, drawn.choice(AMOUNTS)) for _ in range(PRIVATE_PAYMENTS)]
-        for wallet in wallets:
-            routes = tried_again(case, wallet, drawn)
-            paid, tries = paid + bool(routes), tries + len(routes)
-        assert network.filter(everything) == before and network.version == version
-        for wallet in wallets:
-            opinions += second_opinions_agree(case, wallet, drawn)
-        assert network.filter(everything) == before
-        offline.stop(case.database)
-    count = NETWORKS * PRIVATE_PAYMENTS
-    assert paid > count / 2 and tries > 2 * paid and opinions > paid, (paid, tries, opinions)
-    print(f"a wallet without public channels makes {paid} of {count} payments over {NETWORKS} networks, by {tries} routes that "
-          f"the wallet takes; a second opinion agrees on {opinions} more")
-
-
 def payments_agree(offline, folder, count, seed):
     """Payments over synthetic networks, by both."""
     found, wallets, others = 0, 0, 0
@@ -493,7 +304,8 @@ def main():
     tests = (the_map_follows_the_database, the_map_is_there_after_a_restart, what_failed_is_avoided,
              own_channels_and_hints_are_used, other_channels_of_the_payer_are_not_used,
              what_the_wallet_would_not_use_is_left_out, a_hint_bans_nobody, a_payment_is_no_news,
-             a_route_does_not_take_too_long, a_minimum_is_held_against_the_amount, the_wallet_makes_ours)
+             a_payment_keeps_nobody_waiting, a_route_does_not_take_too_long, a_minimum_is_held_against_the_amount,
+             the_wallet_makes_ours)
     with tempfile.TemporaryDirectory() as name, Offline(name) as offline:
         folder = Path(name)
         for test in tests:
