@@ -4,9 +4,10 @@
     python3 bench/embedding.py
 
 bench/offers.c makes the calls: it offers all messages of the workload `routes`, asks for the news of a filter, sets the
-mark, and finds the routes of all payments. Times are CPU time, the minimum of all runs. The program also reads
-the script's digits and writes its answers. For Python, the time is that of a call of `offer` beyond the same call in
-C. The library is built by examples/build-c if it isn't there.
+mark, and finds the routes of all payments; then, as for a restart, it lists all that the map has and offers that to another
+map. Times are CPU time, the minimum of all runs. The program also reads the script's digits and writes its answers. For
+Python, the times are that of a call of `offer` beyond the same call in C, and those of examples/python/dump.py. The library
+is built by examples/build-c if it isn't there.
 """
 
 import argparse
@@ -27,6 +28,7 @@ from network import NOW
 
 TOP = running.HERE.parent
 EXAMPLES = TOP / "examples"
+RESTART = ("dump", "load")  # which `lgm run` has no counterpart of
 SIGS = {"all": 0, "not-all": 1, "nobody": 3}
 SIG_BY = 2
 FUNDINGS = {"-": 0, "spent": 2, "wrong": 3}
@@ -95,24 +97,30 @@ def measure_c(options, program, file):
     return taken, found
 
 
-def measure_python(options, items):
-    """The minimum time of all offers through examples/python/lgm.py."""
+def measure_python(options, items, folder):
+    """The minimum times of all offers through examples/python/lgm.py, and of dump.py's `dump` and `load`."""
     os.environ["LGM_LIBRARY"] = str(options.library / "liblgm.so")
     sys.path.insert(0, str(EXAMPLES / "python"))
+    import dump
     import lgm
     names = {number: name for name, number in SIGS.items()}
     arguments = [
         (message, names[sig] if sig in names else signer, sat if funding == UNSPENT else lgm.NOT_ASKED)
         for message, sig, signer, funding, sat in items]
-    least = 1e9
+    runs, file = [], Path(folder, "dump")
     for _ in range(options.runs):
         with lgm.Map(messages.CHAIN) as network:
-            start = time.process_time()
+            times = [time.process_time()]
             offer = network.offer
             for message, sig, funding in arguments:
                 offer(message, sig, funding)
-            least = min(least, time.process_time() - start)
-    return least
+            times.append(time.process_time())
+            dump.dump(network, file)
+            times.append(time.process_time())
+            dump.load(file, messages.CHAIN).close()
+            times.append(time.process_time())
+        runs.append([end - start for start, end in zip(times, times[1:])])
+    return [min(run) for run in zip(*runs)], file.stat().st_size
 
 
 def routes_in(program, script):
@@ -141,12 +149,15 @@ def main():
             raise running.Failed("the library finds other routes than the program")
         for kind, (count, seconds) in taken.items():
             print(f"{'C, ' + kind:<20}{count:>10}{seconds:>10.3f} s", flush=True)
-        print(f"{'C, together':<30}{sum(seconds for _, seconds in taken.values()):>10.3f} s", flush=True)
+        together = sum(seconds for kind, (_, seconds) in taken.items() if kind not in RESTART)
+        print(f"{'C, together, but dump and load':<30}{together:>10.3f} s", flush=True)
         least = running.least([running.run(whole, script) for _ in range(options.runs)])
         print(f"{'lgm run':<30}{least.processor:>10.3f} s", flush=True)
+        (offers, *restart), size = measure_python(options, items, folder)
     count, seconds = taken["offers"]
-    beyond = (measure_python(options, items) - seconds) / count
-    print(f"{'Python, beyond C':<20}{count:>10}{beyond * 1e6:>10.2f} µs a call")
+    print(f"{'Python, beyond C':<20}{count:>10}{(offers - seconds) / count * 1e6:>10.2f} µs a call")
+    for kind, taken_by in zip(RESTART, restart):
+        print(f"{'Python, ' + kind:<20}{size:>10}{taken_by:>10.3f} s")
 
 
 if __name__ == "__main__":

@@ -91,7 +91,7 @@ def no_news_is_lost_by_a_restart():
 
 
 def a_private_channel_is_for_a_map_of_its_own():
-    """The recipe of docs/questions.md: a second map has the channel until its close; an id that is there bans nodes."""
+    """Why docs/questions.md warns of it: a map has the channel until its close, and an id that is there bans nodes."""
     lines = script("payments.txt")
     gossip = [line for line in lines if line.startswith("m ")][:6]
     payment = next(line for line in lines if line.startswith("route "))
@@ -106,7 +106,7 @@ def a_private_channel_is_for_a_map_of_its_own():
 
 
 def a_channel_is_taken_out_for_a_payment():
-    """The recipe of docs/operating.md: no route goes over it, then one does again, and peers get its messages anew."""
+    """A close and the same messages again: no route goes over the channel, then one does, and peers get them anew."""
     lines = script("payments.txt")
     gossip = [line for line in lines if line.startswith("m ")][:6]
     payment = next(line for line in lines if line.startswith("route "))

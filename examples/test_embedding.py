@@ -106,7 +106,7 @@ def build(out, name, *words):
 def test_faults(out):
     """Calls that fail change nothing; and nothing is freed twice, leaked, or written past its end."""
     has_valgrind = runs("valgrind", "--quiet", "true")
-    for name in ("faults", "published"):
+    for name in ("faults", "published", "attempts"):
         build(out, name, "-g", "-Wl,--wrap=malloc,--wrap=realloc")
         report(name, output([out / name]) == b"ok\n")
         if has_valgrind:
@@ -119,19 +119,57 @@ def test_faults(out):
             report(f"run, {script.name}, valgrind", found == script.with_suffix(".out").read_bytes())
 
 
-def answers_at(items, payments):
-    """What `lgm` answers to payments on the map of these items, a line for each."""
-    script = b"".join([*items, b"commit\n", *payments])
+def set_update(line, later, flag):
+    """The line of an update of the same terms, but for its timestamp and bit 1 of its flags, which disables it (BOLT 7)."""
+    word, digits, *verdicts = line.split()
+    message = bytearray.fromhex(digits.decode())
+    message[106:110] = (int.from_bytes(message[106:110], "big") + later).to_bytes(4, "big")
+    message[111] = message[111] & ~2 | flag
+    return b" ".join([word, bytes(message).hex().encode(), *verdicts]) + b"\n"
+
+
+def updates_of(items):
+    """The line of the last update of each edge, by the text of its id and the digits of the node that it leaves."""
+    found = {}
+    for line in items:
+        message = bytes.fromhex(line.split()[1].decode())
+        if message[:2] == b"\1\2":
+            scid, signer = int.from_bytes(message[98:106], "big"), line.split()[2]
+            found[b"%dx%dx%d" % (scid >> 40, scid >> 16 & 0xffffff, scid & 0xffff), signer] = line
+    return found
+
+
+def answers_without(items, tries):
+    """What `lgm` answers to each of the tries on the map of these items: a payment, and the edges that it excludes. Each of
+    these is disabled by a later update, and enabled again."""
+    updates, script, places, later = updates_of(items), [*items], {}, 1
+    for payment, excluded in tries:
+        lines = [updates[edge] for edge in excluded]
+        places[len(script) + len(lines) + 2] = payment, excluded
+        script += [*(set_update(line, later, 2) for line in lines), b"commit\n", payment]
+        script += [*(set_update(line, later + 1, 0) for line in lines), b"commit\n"]
+        later += 2
     answers = {}
-    for line in answer(script).splitlines():
+    for line in answer(b"".join(script)).splitlines():
         number, text = line.split(maxsplit=1)
-        answers.setdefault(int(number), []).append(text)
-    first = len(items) + 2
-    return [b" ".join(answers[first + place]) for place in range(len(payments))]
+        if int(number) in places:
+            answers.setdefault(places[int(number)], []).append(text)
+    return {one: b" ".join(texts) for one, texts in answers.items()}
 
 
-def served(out, channels, count, batch, pause, *before):
-    """Whether three readers beside a writer answer payments as `lgm` does on so many items as the version says."""
+def tries_in(served, payments):
+    """What `serve` answered: the answers to tries, by version."""
+    found = {}
+    for line in served.splitlines():
+        version, number, limits, text = line.split(maxsplit=3)
+        excluded = tuple(tuple(word.split(b"/")) for word in limits[1:].split(b",") if word)
+        found.setdefault(int(version), []).append(((payments[int(number)], excluded), text))
+    return found
+
+
+def served(out, channels, count, batch, pause, *before, tries=1):
+    """Whether four readers beside a writer answer payments as `lgm` does on so many items as the version says, each tried
+    so often, without the edges that failed before."""
     lines = made_script("routes", channels).splitlines(keepends=True)
     items = [line for line in lines if line.startswith(b"m ")]
     payments = [line for line in lines if line.startswith(b"route ")][:count]
@@ -139,15 +177,14 @@ def served(out, channels, count, batch, pause, *before):
         return False  # versions count what is accepted
     half = len(items) // 2
     script = b"".join([*items[:half], b"commit\n", *items[half:], *payments])
-    found = output([*before, out / "serve", CHAIN, "3", str(batch), str(pause), "1"], script)
-    wanted = {}
-    for line in (found or b"").splitlines():
-        version, number, text = line.split(maxsplit=2)
-        if version not in wanted:
-            wanted[version] = answers_at(items[:int(version)], payments)
-        if text != wanted[version][int(number)]:
+    found = output([*before, out / "serve", "-t", str(tries), CHAIN, "4", str(batch), str(pause), "1"], script)
+    found = tries_in(found or b"", payments)
+    for version, answers in found.items():
+        wanted = answers_without(items[:version], dict.fromkeys(one for one, _ in answers))
+        if any(text != wanted[one] for one, text in answers):
             return False
-    return len(wanted) > 0 and max(map(int, wanted)) == len(items)
+    most = max((len(excluded) for answers in found.values() for (_, excluded), _ in answers), default=None)
+    return most == tries - 1 and max(found) == len(items)
 
 
 def test_serve(out):
@@ -155,8 +192,10 @@ def test_serve(out):
     build(out, "serve", "-g", "-pthread")
     report(f"serve, {CHANNELS} channels", served(out, CHANNELS, 20, 300, 0))
     report(f"serve, {CHANNELS} channels, with pauses", served(out, CHANNELS, 20, 300, 20))
+    report(f"serve, {CHANNELS} channels, tried again", served(out, CHANNELS, 20, 600, 5, tries=6))
     if runs("valgrind", "--quiet", "true"):
         report("serve, valgrind", served(out, 200, 5, 50, 0, *VALGRIND, "--fair-sched=yes"))
+        report("serve, valgrind, tried again", served(out, 200, 5, 50, 0, *VALGRIND, "--fair-sched=yes", tries=4))
         # Two publications, so that no network takes a second turn: helgrind doesn't know that the count of owners
         # orders what a reader did with one before what the writer does.
         report("serve, helgrind", served(out, 100, 3, 1_000, 1, *HELGRIND))
@@ -383,6 +422,114 @@ def test_published():
         published.close()
 
 
+def routed(network, payment, lgm, **beside):
+    """The route of a payment over what is known beside a map, or the word of the reason why there is none."""
+    try:
+        return network.route(*payment, **beside)
+    except (lgm.Unrouted, lgm.Undecided) as reason:
+        return reason.word
+
+
+def edges_in(network, lgm):
+    """The edges of a map that payments can use, as edges beside a map's."""
+    for scid in network.channels():
+        channel = network.channel(scid)
+        for terms, start, end in ((channel.from_1, channel.node_1, channel.node_2),
+                                  (channel.from_2, channel.node_2, channel.node_1)):
+            if terms and not terms.is_disabled and terms.htlc_maximum_msat <= 1000 * channel.capacity_sat:
+                yield lgm.Edge(scid, start, end, terms.fee_base_msat, terms.fee_proportional_millionths,
+                               terms.cltv_expiry_delta, terms.htlc_minimum_msat, terms.htlc_maximum_msat)
+
+
+def quicker_is_right(network, payment, route, lgm):
+    """Whether the delay of a route is within the limit, and without it what is found is quicker and no cheaper."""
+    delay = route.expiry - payment[3]
+    right = routed(network, payment, lgm, most_delay=delay) == route
+    quicker = routed(network, payment, lgm, most_delay=delay - 1) if delay > 0 else "no-route"
+    return right and (quicker == "no-route" or quicker.expiry - payment[3] < delay and quicker.sent_msat >= route.sent_msat)
+
+
+def test_overlays():
+    """Over edges that stand for what a map lacks, or for the payer's own channels, payments have the routes that they have in
+    a map with these channels: in a map that changes, and in four threads that share it as it was published."""
+    import lgm
+
+    lines = [line.split() for line in made_script("routes").decode().splitlines()]
+    asked = [(bytes.fromhex(line[1]), bytes.fromhex(line[2]), int(line[3]), int(line[4]), bytes.fromhex(line[5]))
+             for line in lines if line[0] == "route"][:40]
+    items = [(bytes.fromhex(line[1]), line[2] if line[2] == "all" else bytes.fromhex(line[2]),
+              int(line[3]) if line[3].isdigit() else line[3]) for line in lines if line[0] == "m"]
+
+    def over(network):
+        return [routed(network, payment, lgm, edges=hints) for payment in asked]
+
+    def read():
+        with published.share() as mine:
+            seen.append(over(mine))
+
+    with lgm.Map(bytes.fromhex(CHAIN)) as network, lgm.Map(bytes.fromhex(CHAIN)) as less:
+        for item in items:
+            network.offer(*item)
+            less.offer(*item)
+        edges = list(edges_in(network, lgm))
+        wanted = [routed(network, payment, lgm) for payment in asked]
+        found = [routed(network, payment, lgm, silent=[payment[0]], edges=[e for e in edges if e.start == payment[0]])
+                 for payment in asked]
+        report("lgm.py, own channels", found == wanted and any(isinstance(route, lgm.Route) for route in wanted))
+        payees = {payment[1] for payment in asked}
+        hints = [edge for edge in edges if {edge.start, edge.end} & payees]
+        for scid in {edge.scid for edge in hints}:
+            less.close_channel(scid)
+        alone = [routed(less, payment, lgm) for payment in asked]
+        report("lgm.py, hints", set(alone) == {"no-route"} and over(less) == wanted)
+        seen = []
+        with less.publish() as published:
+            threads = [threading.Thread(target=read) for _ in range(4)]
+            for thread in threads:
+                thread.start()
+            for thread in threads:
+                thread.join()
+        report("lgm.py, hints in four threads", seen == 4 * [wanted])
+        right = all(quicker_is_right(network, payment, route, lgm)
+                    for payment, route in zip(asked, wanted) if isinstance(route, lgm.Route))
+        report("lgm.py, delays", right)
+
+
+def wide_edges(sides, stages, lgm):
+    """From point 0 to point 1 for 1,000,000 msat, or over another point for twice 600 blocks; from there over points side by
+    side to a row of pairs, each a free edge that delays by 1, 2, 4 .. blocks and one that charges as many msat. The last
+    point is the payee."""
+    def edge(scid, start, end, base, delta):
+        return lgm.Edge(scid, at(start), at(end), fee_base_msat=base, cltv_expiry_delta=delta)
+
+    def at(number):
+        return b"\2" + number.to_bytes(32, "big")
+
+    edges = [edge(0, 0, 1, 1_000_000, 0), edge(1, 0, 99, 0, 600), edge(0, 99, 1, 0, 600)]
+    for side in range(sides):
+        edges += [edge(side, 1, 100 + side, 0, 0), edge(side, 100 + side, 2, 0, 0)]
+    for stage in range(stages):
+        edges += [edge(0, 2 + stage, 3 + stage, 0, 2**stage), edge(1, 2 + stage, 3 + stage, 2**stage, 0)]
+    own = lgm.Edge(9, b"\3" + bytes(32), at(0))
+    return own.start, at(2 + stages), [own, *edges]
+
+
+def test_undecided():
+    """Where labels don't suffice, the payment is undecided within a delay that all cheap routes exceed, and only there."""
+    import lgm
+
+    payer, payee, edges = wide_edges(6_000, 8, lgm)
+    payment = payer, payee, 10_000, 700_000, bytes(32)
+    with lgm.Map(bytes.fromhex(CHAIN)) as network, network.publish() as published:
+        found = [[routed(one, payment, lgm, edges=edges, most_delay=most) for most in (1_008, 1_455, None)]
+                 for one in (network, published)]
+        limits = [lgm.Limit(1, edges[1].start)]
+        dear = routed(network, payment, lgm, edges=edges, limits=limits, most_delay=1_008)
+    right = all(word == "undecided" and within == any_delay and within.sent_msat == 10_000 and within.expiry == 701_455
+                for word, within, any_delay in found)
+    report("lgm.py, undecided", right and (dear.sent_msat, dear.expiry) == (1_010_000, 700_255))
+
+
 def test_one_class():
     """A published map refuses what would change it, and is shared; one that changes isn't shared; both are true."""
     import lgm
@@ -406,6 +553,18 @@ def test_one_class():
             published.close()
             right &= raised(published.query, message) is lgm.Closed and shared.version == 0
     report("lgm.py, one class", right)
+
+
+def test_recipes(out):
+    """The programs and recipes of the pages do what they say."""
+    words = [sys.executable, HERE / "test_recipes.py", out]
+    report("recipes", subprocess.run(words, check=False).returncode == 0)
+
+
+def test_dump():
+    """What a map has is written to a file and loaded again, and damaged files are told."""
+    words = [sys.executable, HERE / "python" / "test_dump.py"]
+    report("dump.py", subprocess.run(words, check=False).returncode == 0)
 
 
 def test_electrum():
@@ -449,7 +608,11 @@ def main():
         test_lookups()
         test_threads()
         test_published()
+        test_overlays()
+        test_undecided()
         test_one_class()
+        test_recipes(out)
+        test_dump()
         test_electrum()
         test_routes(out)
     return 0 if failures == 0 else 1

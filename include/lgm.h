@@ -70,6 +70,8 @@ enum {
     LGM_EXPIRY_TOO_LARGE = 23,
     LGM_SELF_PAYMENT = 24,
     LGM_NO_ROUTE = 25,
+    /* A route within a delay wasn't found by as many labels as a search makes: it says nothing about the payment. */
+    LGM_UNDECIDED = 26,
 
     /* The message is neither a 261 nor a 263; it isn't a 265. */
     LGM_NOT_QUERY = 31,
@@ -86,7 +88,8 @@ enum {
      * if memory is short. lgm_filter returns LGM_ROOM even then.
      */
     LGM_NO_MEMORY = 102,
-    /* A number that stands for no verdict or message; a map that changes, where only a published one is shared. */
+    /* A number that stands for no verdict or message; too many edges; a map that changes, where only a published one is
+     * shared. */
     LGM_ARGUMENT = 103,
     /* A buffer is too short. The lengths that are needed were written. */
     LGM_ROOM = 104,
@@ -236,6 +239,64 @@ typedef struct {
  */
 uint32_t lgm_route(lgm_map *map, const lgm_payment *payment, lgm_hop *hops, size_t hops_len,
                    uint8_t *payloads, size_t payloads_len, lgm_lengths *lengths);
+
+/*
+ * An edge beside the map's, by the caller's word: a channel of the payer's own, announced or not, or a route hint of an
+ * invoice (BOLT 11, field `r`). Its nodes needn't be in the map, and it has no capacity.
+ */
+typedef struct {
+    uint64_t scid; /* as the node that the edge leaves resolves it */
+    uint64_t htlc_minimum_msat;
+    uint64_t htlc_maximum_msat; /* of a channel of the payer's own, what it can send */
+    uint32_t fee_base_msat;     /* the payer's own channel charges nothing: its terms don't matter */
+    uint32_t fee_proportional_millionths;
+    uint16_t cltv_expiry_delta;
+    uint8_t from[33]; /* the node that it leaves */
+    uint8_t to[33];   /* the node that it leads to */
+} lgm_edge;
+
+/* What the edge with an id out of a node carries at most, one of the map or of the extra ones: 0 excludes it. */
+typedef struct {
+    uint64_t scid;
+    uint64_t most_msat;
+    uint8_t from[33]; /* the node that the edge leaves: the other direction of the channel has a limit of its own */
+} lgm_limit;
+
+typedef struct {
+    uint8_t point[33];
+} lgm_point;
+
+/* The delay of a route that may have any, also one above 65,535 blocks. */
+#define LGM_ANY_DELAY 65535
+
+/* The most edges of a call. */
+#define LGM_MOST_EDGES 100000
+
+/* The most labels that a search within a delay makes. */
+#define LGM_MOST_LABELS 1000000
+
+/*
+ * Finds the route of a payment as lgm_route does, over what the payer knows beside the map (docs/protocol.md, "What a payer
+ * knows beside the map"), in a map that changes or a published one:
+ *
+ *   - each of the edges stands in place of the map's with its id out of its node; of such edges the first counts;
+ *   - the least limit of an edge counts;
+ *   - no edge of the map that leaves a silent node is used. The node may be paid, and edges of this call may leave it.
+ *
+ * The expiry over the first hop is above that of the payment by at most `most_delay` blocks, if that isn't LGM_ANY_DELAY
+ * (docs/protocol.md, "A route within a delay"). LGM_NO_ROUTE then says that no route is within it. LGM_UNDECIDED says that
+ * the best route of all is beyond it, and that LGM_MOST_LABELS labels didn't suffice to find the best one within it: to
+ * exclude edges with large deltas by limits of 0 helps.
+ *
+ * The map is unchanged, and so is what is passed. Without edges, limits and silent nodes, and with LGM_ANY_DELAY, it does
+ * what lgm_route does, and costs the same.
+ *
+ * LGM_CLOSED; LGM_ARGUMENT, for more than LGM_MOST_EDGES edges; LGM_FULL; 21 to 26; LGM_ROOM; LGM_NO_MEMORY.
+ */
+uint32_t lgm_route_over(lgm_map *map, const lgm_payment *payment, const lgm_edge *edges, size_t edges_len,
+                        const lgm_limit *limits, size_t limits_len, const lgm_point *silent, size_t silent_len,
+                        uint16_t most_delay, lgm_hop *hops, size_t hops_len, uint8_t *payloads, size_t payloads_len,
+                        lgm_lengths *lengths);
 
 /*
  * Answers a peer's query_short_channel_ids (261) or query_channel_range (263) (BOLT 7, "Query Messages"). Writes the

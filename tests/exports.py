@@ -8,7 +8,7 @@ LIBRARY is `liblgm.so`. Compared are
 - the functions that the header declares, that the library exports (`nm`), and that the sources define, with the types of
   their parameters and results;
 - the structs: their fields, in order, with types; and their sizes and offsets as the C compiler lays them out;
-- the numbers of faults and verdicts, the version, and the size of a word.
+- the numbers of faults and verdicts, the version, the size of a word, and the limits of a search.
 
 Prints a line for each difference; the exit status is then 1.
 """
@@ -24,6 +24,7 @@ HEADER = TOP / "include" / "lgm.h"
 SOURCES = TOP / "crates" / "lgm_c" / "src"
 # The names of structs in C, and of types in C and in ctypes.
 STRUCTS = {"LgmMap": "lgm_map", "LgmPayment": "lgm_payment", "LgmHop": "lgm_hop", "LgmLengths": "lgm_lengths",
+           "LgmEdge": "lgm_edge", "LgmLimit": "lgm_limit", "LgmPoint": "lgm_point",
            "LgmDirection": "lgm_direction", "LgmChannel": "lgm_channel_info", "LgmNode": "lgm_node_info"}
 TYPES = {"bool": ("bool", ctypes.c_bool), "u8": ("uint8_t", ctypes.c_uint8), "u16": ("uint16_t", ctypes.c_uint16),
          "u32": ("uint32_t", ctypes.c_uint32), "u64": ("uint64_t", ctypes.c_uint64), "usize": ("size_t", ctypes.c_size_t),
@@ -110,13 +111,15 @@ def source_structs(text):
 
 
 def source_constants(text):
-    """The numbers of faults and verdicts, the version and the size of a word."""
+    """The numbers of faults and verdicts, the version, the size of a word and the limits of a search."""
     def upper(name):
         return re.sub(r"(?<!^)([A-Z])", r"_\1", name).upper()
 
     constants = {"LGM_OK": 0}
     constants["LGM_VERSION"] = int(re.search(r"fn lgm_version\(\) -> u32.*?\n\{\s*(\d+)\s*\}", text, flags=re.DOTALL)[1])
     constants["LGM_WORD_LEN"] = int(re.search(r"fn lgm_word\(number: u32, word: &mut \[u8; (\d+)\]\)", text)[1])
+    for name, number in re.findall(r"^(?:pub\(crate\) )?const (\w+): u\w+ = ([\d_]+);", text, flags=re.MULTILINE):
+        constants["LGM_" + name] = int(number)
     for name, number in re.findall(r"Fault::(?:Unrouted\(RouteFault::)?(\w+)\)? => (\d+),", text):
         constants["LGM_" + upper(name)] = int(number)
     for number, name in re.findall(r"(\d+) => Some\(Ref\w*::(\w+)\)", text):

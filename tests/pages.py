@@ -10,7 +10,9 @@ A page names things in `code spans`. Checked are
 - calls, as `Map::absorb`, and definitions of a module, as `Script.text_for`;
 - clauses behind calls, as `decode`: `found`, `only`, each of which one of the calls before the colon has to have;
 - all other names, which have to occur somewhere outside the pages, unless they are those of the kit or of a tool;
-- that the tables of docs/definitions.md list each module of specs in its folder, and no others.
+- that the tables of docs/definitions.md list each module of specs in its folder, and no others;
+- the ways in docs/architecture.md: lines of a block with a call, its crate, and its files in the crate's `src`, each of
+  which has to exist, and one of which has to have the call.
 
 Prints a line for each thing that isn't there; the exit status is then 1.
 """
@@ -38,12 +40,18 @@ OUTSIDE = set("""
     query_channel_range reply_channel_range gossip_timestamp_filter amt_to_forward outgoing_cltv_value payment_data
     payment_metadata short_channel_id tu16 tu32 tu64 fd fe ff c1 end d1 u64
     ns/byte specs/declared network.txt out/ examples/out crates/lgm/out/lgm kept.txt shorter.txt ping KIT-ID
+    temporary_channel_failure permanent_channel_failure unknown_next_peer channel_disabled fee_insufficient
+    required_channel_feature_missing temporary_node_failure permanent_node_failure required_node_feature_missing
+    incorrect_cltv_expiry amount_below_minimum expiry_too_soon expiry_too_far incorrect_or_unknown_payment_details
+    basic_mpp encrypted_recipient_data gossip_queries gossip_queries_ex warning
     create_route_from_path memcpy memmove memset malloc realloc free cc ar slab valgrind
 """.split())
 
 HASH = re.compile(r"[0-9a-f]{64}")
 NAME = re.compile(r"[A-Za-z_][A-Za-z0-9_]*")
 PATH = re.compile(r"[.A-Za-z0-9_*-]+(/[.A-Za-z0-9_*-]*)+")
+# A line of a way: what is called, its crate, its files in `src`, and maybe what it does.
+STEP = re.compile(r" {4}[ |]+(\w.*?)(?: \(\w+\))? {2,}(lgm_\w+) +(\w[\w/]*(?:, \w[\w/]*)*)(?: {2,}.*)?")
 FILE = re.compile(r"[A-Za-z0-9_-]+\.(rt|antt|py|md|txt|out|svg|c|h|edit)")
 
 
@@ -182,6 +190,24 @@ class Checker:
         yield from (f"{crate} has no module {name}" for crate, name in sorted(names - there))
         yield from (f"the module {name} of {crate} isn't listed" for crate, name in sorted(there - names))
 
+    def ways(self, page):
+        """Steps of a page's ways whose crate, files or calls aren't there, by their lines."""
+        before, _, way = page.read_text().partition("## The way of a line")
+        for count, line in enumerate(way.splitlines(), before.count("\n") + 1):
+            if not (line.startswith("     ") and re.search(r" {2,}lgm_\w+ ", line)):
+                continue
+            if not (found := STEP.fullmatch(line)):
+                yield count, "no call, crate and files as in the other steps"
+                continue
+            calls, crate, files = found[1].removesuffix(", ..").split(", "), found[2], found[3].split(", ")
+            sources = {file: TOP / "crates" / crate / "src" / f"{file}.rt" for file in files}
+            yield from ((count, f"{crate} has no file {file}") for file, source in sources.items() if not source.exists())
+            text = " ".join(source.read_text() for source in sources.values() if source.exists())
+            for call in calls:
+                name = call.split(".")[-1]
+                if not re.search(rf"\b(?:fn|struct|enum|trait) {name}\b", text):
+                    yield count, f"{crate} has no {call} in {', '.join(files)}"
+
     def missing(self, page, word):
         """Why a word of a code span names nothing, if so."""
         if word in OUTSIDE or "NAME" in word or word.startswith("~"):
@@ -221,6 +247,7 @@ def main():
         checker.page(page)
     definitions_page = TOP / "docs/definitions.md"
     checker.faults += [f"docs/definitions.md: {why}" for why in checker.listed(definitions_page)]
+    checker.faults += [f"docs/architecture.md:{count}: {why}" for count, why in checker.ways(TOP / "docs/architecture.md")]
     print(*checker.faults, sep="\n", end="\n" if checker.faults else "")
     print(f"{len(PAGES)} pages, {len(checker.faults)} faults")
     sys.exit(1 if checker.faults else 0)

@@ -28,6 +28,8 @@ static void closed_handles(void) {
     expect("a closed handle's wants", lgm_wanted(&map, message, QUERY, point), LGM_CLOSED);
     expect("a closed handle's close", lgm_close_channel(&map, scid), LGM_CLOSED);
     expect("a closed handle's route", lgm_route(&map, &payment, hops, 1, room, 8, &lengths), LGM_CLOSED);
+    expect("a closed handle's route over nothing",
+           lgm_route_over(&map, &payment, NULL, 0, NULL, 0, NULL, 0, 0, hops, 1, room, 8, &lengths), LGM_CLOSED);
     expect("a closed handle's query", lgm_query(&map, message, QUERY, room, 8, &needed), LGM_CLOSED);
     expect("a closed handle's filter", lgm_filter(&map, message, QUERY, room, 8, &needed), LGM_CLOSED);
     expect("a closed handle's news", lgm_news(&map, message, QUERY, room, 8, &needed), LGM_CLOSED);
@@ -327,6 +329,8 @@ static void null_with_no_items(lgm_map *map) {
     expect("null for news", lgm_news(map, filter, FILTER, NULL, 0, &needed), LGM_ROOM);
     expect("null for a route", lgm_route(map, &payment, NULL, 0, NULL, 0, &lengths), LGM_ROOM);
     expect("its hops", lengths.hops, 1);
+    expect("null for lists", lgm_route_over(map, &payment, NULL, 0, NULL, 0, NULL, 0, 0, NULL, 0, NULL, 0, &lengths), LGM_ROOM);
+    expect("its hops", lengths.hops, 1);
     expect("null for addresses", lgm_node(map, a, &info, NULL, 0, &needed), LGM_ROOM);
     expect("their length", needed, 2);
 }
@@ -336,7 +340,8 @@ static void words(void) {
         uint32_t number;
         const char *word;
     } some[] = {{LGM_OK, "accepted"}, {LGM_MALFORMED, "malformed"}, {LGM_BANNED, "banned"},
-                {LGM_AMOUNT_TOO_LARGE, "amount-too-large"}, {LGM_NO_ROUTE, "no-route"}, {LGM_NOT_QUERY, "not-query"},
+                {LGM_AMOUNT_TOO_LARGE, "amount-too-large"}, {LGM_NO_ROUTE, "no-route"}, {LGM_UNDECIDED, "undecided"},
+                {LGM_NOT_QUERY, "not-query"},
                 {LGM_ROOM, "room"}, {17, ""}, {UINT32_MAX, ""}};
     for (size_t i = 0; i < sizeof some / sizeof *some; i++) {
         uint8_t word[LGM_WORD_LEN];

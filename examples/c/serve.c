@@ -2,14 +2,16 @@
  * Answers payments in several threads while another one extends the map (docs/embedding.md, "Threads").
  *
  *     cc -pthread -I include examples/c/serve.c examples/out/liblgm.a -o serve
- *     serve [-q] CHAIN READERS BATCH PAUSE TIMES < SCRIPT
+ *     serve [-q] [-t TRIES] CHAIN READERS BATCH PAUSE TIMES < SCRIPT
  *
  * The items before the first `commit` of the script (docs/script.md) are offered first. Then the writer offers the
  * others, publishes the map after each BATCH of them, and then pauses for PAUSE milliseconds. Meanwhile each of the READERS
  * routes the payments of the script, again and again, each in the map that was published last: at least TIMES times, and at
- * last all of them in the last one. For each answer it prints a line, unless there is a `-q`: the version of that map, the
- * number of the payment, the first being 0, and what `lgm run` answers. What was done, and how long it took, is written to
- * standard error.
+ * last all of them in the last one. Each payment is tried TRIES times, once if that is left out, or until there is no route.
+ * Nothing is sent here, so a try is taken to fail at the middle hop of its route, which the payment excludes from then on.
+ *
+ * For each answer it prints a line, unless there is a `-q`: the version of that map, the number of the payment, the first being
+ * 0, what it excludes, and what `lgm run` answers. What was done, and how long it took, is written to standard error.
  */
 #define _POSIX_C_SOURCE 200809L
 
@@ -20,7 +22,7 @@
 #include <sys/types.h>
 #include <time.h>
 
-enum { MOST_READERS = 64, MOST_ANSWER = 8192 };
+enum { MOST_READERS = 64, MOST_TRIES = 16, MOST_ANSWER = 8192 };
 
 /* What the writer publishes for the readers. Both hold the lock for a moment: no call that takes long is made under it. */
 static pthread_mutex_t lock = PTHREAD_MUTEX_INITIALIZER;
@@ -33,7 +35,7 @@ static lgm_payment *payments;
 static size_t items_len, items_capacity, payments_len, payments_capacity;
 static size_t first_len; /* of the items that are offered before the readers start */
 static buffer messages;
-static size_t batch, pause_ms, times;
+static size_t batch, pause_ms, times, tries = 1;
 static bool is_quiet;
 
 static void expect(uint32_t number) {
@@ -122,34 +124,87 @@ static size_t describe_bytes(char *text, const uint8_t *bytes, size_t len) {
     return 2 * len;
 }
 
+/* A payment, with what the tries before have taught, and the answer to this one. */
+typedef struct {
+    size_t payment;
+    lgm_limit limits[MOST_TRIES];
+    size_t limits_len;
+    uint32_t number;
+    lgm_hop hops[LGM_MOST_HOPS];
+    uint8_t payloads[LGM_MOST_PAYLOADS];
+    lgm_lengths lengths;
+} attempt;
+
+static size_t describe_id(char *text, uint64_t scid) {
+    return (size_t)sprintf(text, "%" PRIu64 "x%" PRIu64 "x%" PRIu64, scid >> 40, scid >> 16 & 0xffffff, scid & 0xffff);
+}
+
+/* What is excluded: the ids, each with the node that the edge leaves. */
+static size_t describe_limits(char *text, const attempt *it) {
+    size_t at = (size_t)sprintf(text, "-");
+    for (size_t i = 0; i < it->limits_len; i++) {
+        at += describe_id(text + at, it->limits[i].scid);
+        text[at++] = '/';
+        at += describe_bytes(text + at, it->limits[i].from, sizeof it->limits[i].from);
+        text[at++] = ',';
+    }
+    return at;
+}
+
+static void describe_route(char *text, const attempt *it) {
+    const uint8_t *payload = it->payloads;
+    size_t at = (size_t)sprintf(text, "route %" PRIu64 " %" PRIu32 " %zu", it->hops[0].amount_msat, it->hops[0].expiry,
+                                it->lengths.hops);
+    for (size_t i = 0; i < it->lengths.hops; i++) {
+        at += (size_t)sprintf(text + at, " hop ");
+        at += describe_id(text + at, it->hops[i].scid);
+        text[at++] = ' ';
+        at += describe_bytes(text + at, payload, it->hops[i].payload_len);
+        payload += it->hops[i].payload_len;
+    }
+    text[at] = 0;
+}
+
 /* Prints a line, in one call, so that those of other readers don't come between. */
-static void print_answer(uint64_t version, size_t payment, uint32_t number, const lgm_hop *hops, size_t count,
-                         const uint8_t *payload) {
+static void print_answer(uint64_t version, const attempt *it) {
     char text[MOST_ANSWER];
-    uint8_t word[LGM_WORD_LEN];
-    size_t at = (size_t)sprintf(text, "%" PRIu64 " %zu ", version, payment);
-    if (number != LGM_OK) {
-        lgm_word(number, word);
-        sprintf(text + at, "%s", (const char *)word);
+    size_t at = (size_t)sprintf(text, "%" PRIu64 " %zu ", version, it->payment);
+    at += describe_limits(text + at, it);
+    text[at++] = ' ';
+    if (it->number == LGM_OK) {
+        describe_route(text + at, it);
     } else {
-        at += (size_t)sprintf(text + at, "route %" PRIu64 " %" PRIu32 " %zu", hops[0].amount_msat, hops[0].expiry, count);
-        for (size_t i = 0; i < count; i++) {
-            at += (size_t)sprintf(text + at, " hop %" PRIu64 "x%" PRIu64 "x%" PRIu64 " ", hops[i].scid >> 40,
-                                  hops[i].scid >> 16 & 0xffffff, hops[i].scid & 0xffff);
-            at += describe_bytes(text + at, payload, hops[i].payload_len);
-            payload += hops[i].payload_len;
-        }
+        uint8_t word[LGM_WORD_LEN];
+        lgm_word(it->number, word);
+        sprintf(text + at, "%s", (const char *)word);
     }
     puts(text);
 }
 
-static void route(lgm_map *published, uint64_t version, size_t payment) {
-    lgm_hop hops[LGM_MOST_HOPS];
-    uint8_t payloads[LGM_MOST_PAYLOADS];
-    lgm_lengths lengths;
-    uint32_t number = lgm_route(published, &payments[payment], hops, LGM_MOST_HOPS, payloads, sizeof payloads, &lengths);
-    if (number >= LGM_CLOSED) expect(number);
-    if (!is_quiet) print_answer(version, payment, number, hops, lengths.hops, payloads);
+static void route(lgm_map *published, uint64_t version, attempt *it) {
+    it->number = lgm_route_over(published, &payments[it->payment], NULL, 0, it->limits, it->limits_len, NULL, 0,
+                                LGM_ANY_DELAY, it->hops, LGM_MOST_HOPS, it->payloads, sizeof it->payloads, &it->lengths);
+    if (it->number >= LGM_CLOSED) expect(it->number);
+    if (!is_quiet) print_answer(version, it);
+}
+
+/* Takes the middle hop for the one that failed, and excludes it. A node would exclude less: what that hop couldn't carry. */
+static void learn(attempt *it) {
+    const lgm_hop *hop = &it->hops[it->lengths.hops / 2];
+    lgm_limit *limit = &it->limits[it->limits_len++];
+    *limit = (lgm_limit){.scid = hop->scid, .most_msat = 0};
+    memcpy(limit->from, hop->from, sizeof limit->from);
+}
+
+/* Tries a payment until there is no route, or often enough, each time in the map that was published last. Returns how often. */
+static size_t pay(lgm_map *published, uint64_t *version, size_t payment) {
+    attempt it = {.payment = payment};
+    for (;;) {
+        route(published, *version, &it);
+        if (it.number != LGM_OK || it.limits_len + 1 == tries) return it.limits_len + 1;
+        learn(&it);
+        renew(published, version);
+    }
 }
 
 /* A thread: it has a published map of its own, reads alone, and counts its answers. */
@@ -162,8 +217,7 @@ static void *read_map(void *answers) {
         is_last = renew(&published, &version);
         for (size_t i = 0; i < payments_len; i++) {
             if (i > 0 && !is_last) renew(&published, &version);
-            route(&published, version, i);
-            ++*count;
+            *count += pay(&published, &version, i);
         }
     }
     lgm_free(&published);
@@ -230,6 +284,14 @@ static bool read_count(const char *field, size_t most, size_t *count) {
     return true;
 }
 
+/* Reads the words that may be left out, and returns those behind them. */
+static char **read_options(char **words) {
+    is_quiet = *words != NULL && strcmp(*words, "-q") == 0;
+    words += is_quiet;
+    if (words[0] == NULL || strcmp(words[0], "-t") != 0 || words[1] == NULL) return words;
+    return read_count(words[1], MOST_TRIES, &tries) && tries > 0 ? words + 2 : words;
+}
+
 /* Waits for the readers, and returns how many answers they gave. */
 static size_t joined(pthread_t *threads, const size_t *answers, size_t readers) {
     size_t all = 0;
@@ -246,12 +308,12 @@ int main(int argc, char **argv) {
     lgm_map map = {0};
     uint8_t chain[32];
     size_t readers;
-    is_quiet = argc > 1 && strcmp(argv[1], "-q") == 0;
-    char **words = argv + is_quiet;
-    if (argc - is_quiet != 6 || !read_exactly(words[1], chain, sizeof chain) || !read_count(words[2], MOST_READERS, &readers)
-        || !read_count(words[3], SIZE_MAX, &batch) || batch == 0 || !read_count(words[4], 1000000, &pause_ms)
-        || !read_count(words[5], SIZE_MAX, &times) || lgm_version() != LGM_VERSION) {
-        fputs("usage: serve [-q] CHAIN READERS BATCH PAUSE TIMES < SCRIPT\n", stderr);
+    char **words = read_options(argv + 1);
+    if (argv + argc - words != 5 || !read_exactly(words[0], chain, sizeof chain)
+        || !read_count(words[1], MOST_READERS, &readers) || !read_count(words[2], SIZE_MAX, &batch) || batch == 0
+        || !read_count(words[3], 1000000, &pause_ms) || !read_count(words[4], SIZE_MAX, &times)
+        || lgm_version() != LGM_VERSION) {
+        fputs("usage: serve [-q] [-t TRIES] CHAIN READERS BATCH PAUSE TIMES < SCRIPT\n", stderr);
         return 2;
     }
     read_script();

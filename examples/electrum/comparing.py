@@ -78,14 +78,14 @@ def sent(route, payment):
 def is_other(database, route, payment):
     """Whether a route of the wallet's isn't one of ours: it is longer than an onion, or an edge's minimum is above the
     payment's amount. The wallet compares a minimum with what the edge carries, with fees; we compare it with the amount."""
+    policies = (database.get_policy_for_node(edge.short_channel_id, edge.start_node) for edge in route)
     return len(route) > NUM_MAX_EDGES_IN_PAYMENT_PATH or any(
-        database.get_policy_for_node(edge.short_channel_id, edge.start_node).htlc_minimum_msat > payment.amount_msat
-        for edge in route)
+        policy and policy.htlc_minimum_msat > payment.amount_msat for policy in policies)
 
 
-def compare(finder, own, payment):
-    """A payment by both finders."""
-    asked = {"nodeA": payment.payer, "nodeB": payment.payee, "invoice_amount_msat": payment.amount_msat}
+def compare(finder, own, payment, **known):
+    """A payment by both finders; `known` has the payer's channels and the route hints, as the wallet passes them."""
+    asked = {"nodeA": payment.payer, "nodeB": payment.payee, "invoice_amount_msat": payment.amount_msat, **known}
     begun = time.perf_counter()
     found = finder.find_payment(final_cltv=FINAL_CLTV, payment_secret=payment.secret, **asked)
     between = time.perf_counter()

@@ -8,11 +8,12 @@
     route = finder.find_route(nodeA=payer, nodeB=payee, invoice_amount_msat=1_000_000)
 
 `MappedChannelDB` keeps a map beside the wallet's tables: each row that the wallet writes, reads at its start or deletes
-is stored in the map too. So what the wallet has checked is what the map knows. `PathFinder` answers from the map, with the
-wallet's own channels and an invoice's route hints put in for the payment. What the wallet wouldn't use it doesn't use
-either: it asks the wallet's cost function (`_edge_cost`) about each hop, takes the directions out that cost infinitely
-much, such as those that failed before, and searches again. Such a direction is left out for the whole payment, though it
-might do for another amount.
+is stored in the map too. So what the wallet has checked is what the map knows, and what peers ask it for. `PathFinder`
+answers from the map. With each payment it passes what only the wallet knows: its own channels, an invoice's route hints,
+the channels on its list of failures, and what others couldn't send (`update_liquidity_hints`). What the wallet wouldn't use
+it doesn't use either: it asks the wallet's cost function (`_edge_cost`) about each hop, leaves the directions out that cost
+infinitely much, and searches again. Such a direction is left out for the whole payment, though it might do for another
+amount.
 
 It is written for Electrum 4.3.4 (python3-electrum), and needs the library: see `lgm.py` in `examples/python`.
 """
@@ -22,10 +23,10 @@ from __future__ import annotations
 from math import inf
 
 from electrum import channel_db, constants, lnrouter
-from electrum.lnutil import NBLOCK_CLTV_EXPIRY_TOO_FAR_INTO_FUTURE, ShortChannelID
+from electrum.lnutil import LOCAL, NBLOCK_CLTV_EXPIRY_TOO_FAR_INTO_FUTURE, ShortChannelID
 from electrum.sql_db import sql
 
-from route_map import PrivateChannel, RouteMap
+from route_map import RouteMap, lgm, number
 
 NO_SECRET = bytes(32)  # where only the path is asked for
 PAYEES_BLOCKS = 1_008  # of the wallet's limit of blocks, what is left to the payee's own delay
@@ -94,37 +95,75 @@ class PathFinder(lnrouter.LNPathFinder):
     def find_payment(self, *, nodeA, nodeB, invoice_amount_msat, final_cltv, payment_secret,
                      my_sending_channels=None, private_route_edges=None):
         """The route as the library has it, with amounts, expiries and payloads of the hops; or None."""
-        own, hints = my_sending_channels or {}, private_route_edges or {}
-        with self.channel_db.routes.payment() as payment:
-            for channel in (*own_channels(nodeA, own), *hinted_channels(hints)):
-                payment.add(channel)
-            while True:
-                route = payment.route(nodeA, nodeB, invoice_amount_msat, final_cltv, payment_secret)
-                unwanted = self._unwanted(route, final_cltv, own, hints) if route else []
-                if not unwanted:
-                    return route
-                for hop in unwanted:
-                    payment.take_out(scid_of(hop), hop.start)
+        own, hints = my_sending_channels or {}, self.usable(private_route_edges, my_sending_channels)
+        payment = nodeA, nodeB, invoice_amount_msat, final_cltv, payment_secret
+        known = self.known(nodeA, my_sending_channels, hints)
+        while True:
+            route = self._route(payment, known)
+            unwanted = self._unwanted(route.hops, own, hints) if route else []
+            if not unwanted:
+                return route
+            known["limits"] += unwanted
 
-    def _unwanted(self, route, final_cltv, own, hints):
-        """The hops of a route that the wallet wouldn't use; else, if it takes too long, the one that takes longest."""
-        found = [hop for hop in route.hops if self._is_unwanted(hop, route.hops[0].start, own, hints)]
-        if found or route.expiry - final_cltv <= MOST_BLOCKS:
-            return found
-        delays = [before.expiry - hop.expiry for before, hop in zip(route.hops, route.hops[1:])]
-        return [route.hops[1 + delays.index(max(delays))]]
+    def find_route(self, *, my_sending_channels=None, private_route_edges=None, **asked):
+        """The wallet's own, without the hints that aren't used."""
+        return super().find_route(my_sending_channels=my_sending_channels, **asked,
+                                  private_route_edges=self.usable(private_route_edges, my_sending_channels))
 
-    def _is_unwanted(self, hop, payer, own, hints):
-        scid = scid_of(hop)
-        if scid in self.liquidity_hints.get_blacklist():
-            return True
-        is_mine = scid in own
-        if is_mine and hop.start == payer and not own[scid].can_pay(hop.amount_msat, check_frozen=True):
-            return True
-        cost, _ = self._edge_cost(
-            short_channel_id=scid, start_node=hop.start, end_node=hop.end, payment_amt_msat=hop.amount_msat,
-            is_mine=is_mine, my_channels=own, private_route_edges=hints)
-        return cost == inf
+    def usable(self, hints, own):
+        """The route hints that are neither of a public channel nor of an own one, whatever they say of it: whoever wrote the
+        invoice chose the ids, and the wallet would take the hint's terms for those of the channel."""
+        return {scid: edge for scid, edge in (hints or {}).items()
+                if not self.channel_db.get_endnodes_for_chan(scid, my_channels=own)}
+
+    def known(self, payer, own, hints):
+        """What only the wallet knows, as `lgm.Map.route` takes it. Where it has a list of its own channels (`own` isn't
+        None), no other ones of the payer's are used."""
+        ends = {**{scid: (edge.start_node, edge.end_node) for scid, edge in hints.items()},
+                **{scid: (payer, channel.node_id) for scid, channel in (own or {}).items()}}
+        return {"edges": own_channels(payer, own or {}) + hinted_channels(hints), "limits": self._failures(ends, own or {}),
+                "silent": [] if own is None else [payer], "most_delay": MOST_BLOCKS}
+
+    def _failures(self, ends, own):
+        """Limits of 0 for what the wallet has on its list of failures, and of what directions of other channels than its own
+        couldn't send."""
+        hints, limits = self.liquidity_hints, []
+        listed = hints.get_blacklist()
+        with hints.lock:
+            found = list(hints._liquidity_hints.items())
+        for scid, hint in found:
+            nodes = ends.get(scid) or self.channel_db.get_endnodes_for_chan(scid) or ()
+            for start, end in (nodes, nodes[::-1]) if nodes else ():
+                cannot_send = 1 if scid in listed else None if scid in own else hint.cannot_send(start < end)
+                if cannot_send is not None:
+                    limits.append(lgm.Limit(number(scid), start, max(cannot_send - 1, 0)))
+        return limits
+
+    def _route(self, payment, known):
+        """The best route within the wallet's limit of blocks. Where there is too much to search for that, channels that take
+        long are left out."""
+        while True:
+            try:
+                return self.channel_db.routes.route(*payment, **known)
+            except lgm.Undecided:
+                hops = self.channel_db.routes.route(*payment, **{**known, "most_delay": None}).hops
+                _, slowest = max(zip((before.expiry - hop.expiry for before, hop in zip(hops, hops[1:])), hops[1:]),
+                                 key=lambda pair: pair[0])
+                known["limits"].append(lgm.Limit(slowest.scid, slowest.start))
+
+    def _unwanted(self, hops, own, hints):
+        """Limits for the hops of a route that the wallet wouldn't use."""
+        payer, found = hops[0].start, []
+        for hop in hops:
+            scid = scid_of(hop)
+            is_mine = scid in own
+            if is_mine and hop.start == payer and not own[scid].can_pay(hop.amount_msat, check_frozen=True):
+                found.append(lgm.Limit(hop.scid, hop.start, hop.amount_msat - 1))
+            elif self._edge_cost(
+                    short_channel_id=scid, start_node=hop.start, end_node=hop.end, payment_amt_msat=hop.amount_msat,
+                    ignore_costs=hop.start == payer, is_mine=is_mine, my_channels=own, private_route_edges=hints)[0] == inf:
+                found.append(lgm.Limit(hop.scid, hop.start))
+        return found
 
 
 def scid_of(hop):
@@ -133,14 +172,15 @@ def scid_of(hop):
 
 
 def own_channels(payer, own):
-    """The payer's own channels, which charge nothing."""
-    return [PrivateChannel(scid, payer, channel.node_id) for scid, channel in own.items()]
+    """The payer's own channels, which charge nothing, with what they can send."""
+    return [lgm.Edge(number(scid), payer, channel.node_id, htlc_maximum_msat=max(0, channel.available_to_spend(LOCAL)))
+            for scid, channel in own.items()]
 
 
 def hinted_channels(hints):
     """The channels of an invoice's route hints."""
-    return [PrivateChannel(scid, edge.start_node, edge.end_node, edge.fee_base_msat, edge.fee_proportional_millionths,
-                           edge.cltv_expiry_delta) for scid, edge in hints.items()]
+    return [lgm.Edge(number(scid), edge.start_node, edge.end_node, edge.fee_base_msat, edge.fee_proportional_millionths,
+                     edge.cltv_expiry_delta) for scid, edge in hints.items()]
 
 
 def install():

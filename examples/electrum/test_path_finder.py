@@ -4,9 +4,11 @@
     LGM_LIBRARY=examples/out/liblgm.so python3 examples/electrum/test_path_finder.py [--payments N] [--seed N]
 
 The map has what the wallet's database has, field by field. Of each payment: the wallet accepts the path that is found,
-builds the same payloads, and finds no path by itself over which the payer sends less. Then, by routes that are worked
-out here: the map follows the wallet's database, and takes its own channels, route hints and failures into account. It continues in the system's Python if that has Electrum's
-package. Without the package it is left out, with status 77.
+builds the same payloads, and finds no path by itself over which the payer sends less. So it is over 20 more networks for a
+wallet without public channels and invoices with route hints, also when a payment is tried again without what failed, and no
+peer sees anything of it; and there the route is that of second_opinion.py. Then, by routes that are worked out here: the map
+follows the wallet's database, and payments take its own channels, route hints and failures into account. It continues in
+the system's Python if that has Electrum's package. Without the package it is left out, with status 77.
 """
 
 from __future__ import annotations
@@ -14,7 +16,7 @@ from __future__ import annotations
 import argparse
 import sys
 import tempfile
-import time
+import threading
 from pathlib import Path
 
 sys.dont_write_bytecode = True  # the repository gets no made files
@@ -28,108 +30,13 @@ if not interpreter.goes_on_with_electrum():
 from electrum import channel_db, constants, lnmsg, lnrouter, lnworker, network
 
 import path_finder
+from cases import (A, AA, AB, AC, B, BD, C, CD, D, DAY, DE, E, MSAT, NOW, OVER_B, OVER_C, Case, OwnChannel, announcement, both,
+                   scid, square, update)
 from comparing import compared
-from offline import Messages, Offline, made_network
+from offline import PATIENCE, Messages, Offline, made_network
+from private_wallet import a_wallet_without_public_channels_pays
 
 CHANNELS = (56, 562, 5_625)  # of 20, 200 and 2,000 nodes
-A, B, C, D, E = (b"\x02" + bytes([letter]) * 32 for letter in (10, 11, 12, 13, 14))
-MSAT = 1_000_000
-NOW = int(time.time()) - 1_000
-DAY = 86_400
-
-
-def scid(block):
-    """The id of a channel of this block."""
-    return (block << 40 | 1 << 16).to_bytes(8, "big")
-
-
-AB, BD, AC, CD, DE, AA = map(scid, range(1, 7))
-
-
-def announcement(own_scid, one, other):
-    """A channel's announcement."""
-    first, second = sorted((one, other))
-    return lnmsg.encode_msg(
-        "channel_announcement", len=0, features=b"", chain_hash=constants.net.rev_genesis_bytes(), node_id_1=first,
-        node_id_2=second, short_channel_id=own_scid, bitcoin_key_1=A, bitcoin_key_2=B)
-
-
-def update(own_scid, start, end, base=0, delta=40, timestamp=NOW, minimum=0):
-    """The update of the direction from start to end."""
-    return lnmsg.encode_msg(
-        "channel_update", chain_hash=constants.net.rev_genesis_bytes(), short_channel_id=own_scid, timestamp=timestamp,
-        message_flags=b"\1", channel_flags=bytes([start > end]), cltv_expiry_delta=delta, fee_base_msat=base,
-        htlc_minimum_msat=minimum, htlc_maximum_msat=10**9)
-
-
-def both(own_scid, start, end, base=0, delta=40):
-    """A channel and both updates; the one from end to start is never cheaper."""
-    return (announcement(own_scid, start, end), None), [
-        (update(own_scid, start, end, base, delta), start), (update(own_scid, end, start, base + 5_000, delta), end)]
-
-
-def square():
-    """From A to D over B, who charges 1,000 msat, or over C, who charges 2,000."""
-    parts = [both(AB, A, B), both(BD, B, D, 1_000), both(AC, A, C), both(CD, C, D, 2_000)]
-    return Messages([channel for channel, _ in parts], [one for _, updates in parts for one in updates], [])
-
-
-class OwnChannel:
-    """A channel of the payer's, as far as a path finder asks the wallet about it."""
-
-    class constraints:
-        """What the wallet has of the funding."""
-
-        capacity = 1_000_000
-
-    def __init__(self, own_scid, payer, peer, can_send):
-        self.short_channel_id, self._payer, self.node_id, self._can_send = own_scid, payer, peer, can_send
-
-    def can_pay(self, amount_msat, *, check_frozen):
-        """Whether so much can be sent."""
-        return check_frozen and amount_msat <= self._can_send
-
-    def get_local_pubkey(self):
-        """The payer."""
-        return self._payer
-
-    def construct_channel_announcement_without_sigs(self):
-        """The announcement that the channel would have."""
-        return announcement(self.short_channel_id, self._payer, self.node_id)
-
-    def get_outgoing_gossip_channel_update(self):
-        """The payer's terms."""
-        return update(self.short_channel_id, self._payer, self.node_id, 3_000)
-
-    def get_remote_update(self):
-        """The peer hasn't sent one."""
-        return None
-
-
-class Case:
-    """A path finder over the square, and what it finds."""
-
-    def __init__(self, offline, folder):
-        offline.config.path = str(folder)
-        folder.mkdir(exist_ok=True)
-        self.offline, self.database = offline, offline.database(path_finder.MappedChannelDB)
-        self.finder = path_finder.PathFinder(self.database)
-
-    def path(self, payer=A, payee=D, msat=MSAT, **more):
-        """The ids of the path, and what the payer sends."""
-        asked = {"nodeA": payer, "nodeB": payee, "invoice_amount_msat": msat, **more}
-        path = self.finder.find_path_for_payment(**asked)
-        if path is None:
-            return None
-        route = self.finder.find_payment(final_cltv=0, payment_secret=bytes(32), **asked)
-        assert all(isinstance(edge, lnrouter.PathEdge) for edge in path)
-        ends = [payer, *(edge.end_node for edge in path)]
-        assert ends[-1] == payee and ends[:-1] == [edge.start_node for edge in path]
-        assert [(edge.fee_base_msat, edge.node_id) for edge in self.finder.find_route(**asked)][-1][1] == payee
-        return [bytes(edge.short_channel_id) for edge in path], route.sent_msat
-
-
-OVER_B, OVER_C = ([AB, BD], MSAT + 1_000), ([AC, CD], MSAT + 2_000)
 
 
 def the_map_follows_the_database(case):
@@ -152,7 +59,7 @@ def the_map_follows_the_database(case):
         database._policies[(start, own)] = policy._replace(timestamp=NOW - 30 * DAY)
     database.prune_old_policies(14 * DAY)
     assert case.path() == OVER_C and len(database.routes) == 4
-    found = database.routes._map.channel(int.from_bytes(AB, "big"))
+    found = database.routes.map.channel(int.from_bytes(AB, "big"))
     assert (found.from_1, found.from_2) == (None, None)
     database.prune_orphaned_channels()
     assert case.path() == OVER_C and len(database.routes) == 3 and len(updates) == 2
@@ -199,18 +106,93 @@ def own_channels_and_hints_are_used(case):
     assert case.path(payer=payer) is None and len(case.database.routes) == 4
 
 
+def other_channels_of_the_payer_are_not_used(case):
+    """Where the wallet lists the payer's channels, a public one that isn't listed, as it is closing, isn't used."""
+    case.offline.fill(case.database, square())
+    own = {AC: OwnChannel(AC, A, C, 2 * MSAT)}
+    assert case.path() == OVER_B and case.path(my_sending_channels=own) == OVER_C
+    assert case.path(my_sending_channels={}) is None
+
+
+def what_the_wallet_would_not_use_is_left_out(case):
+    """A channel of which one direction alone has an update, which the wallet's cost function refuses."""
+    messages = square()
+    case.offline.fill(case.database, messages._replace(updates=[
+        one for one in messages.updates if one != (update(BD, D, B, 6_000), D)]))
+    assert case.path() == OVER_C
+    case.offline.fill(case.database, Messages([], [(update(BD, D, B, 6_000), D)], []))
+    assert case.path() == OVER_B
+
+
 def a_hint_bans_nobody(case):
-    """A hint with the id of a public channel, between other nodes, and one that isn't between two nodes; and another
-    announcement of that id."""
+    """A hint with the id of a public channel, between other nodes or the same ones, and one that isn't between two nodes; and
+    another announcement of that id."""
     case.offline.fill(case.database, square())
     case.database.routes.announce(announcement(AB, C, E))
-    for start, end in ((C, E), (E, E), (b"\5" + bytes(32), E)):
+    before = case.database.routes.map.version
+    for start, end in ((C, E), (A, B), (E, E), (b"\5" + bytes(32), E)):
         edge = lnrouter.RouteEdge(start_node=start, end_node=end, short_channel_id=AB, fee_base_msat=0,
                                   fee_proportional_millionths=0, cltv_expiry_delta=0, node_features=0)
-        with case.database.routes.payment() as payment:
-            for own in path_finder.hinted_channels({AB: edge, AA: edge}):
-                payment.add(own)
-    assert len(case.database.routes) == 4 and case.path() == OVER_B
+        for hints in ({AB: edge}, {AA: edge}, {AB: edge, AA: edge}):
+            assert case.path(private_route_edges=hints) == OVER_B
+            assert case.path(payee=E, private_route_edges=hints) == (
+                ([AC, AA], MSAT) if AA in hints and start == C else None)
+    assert len(case.database.routes) == 4 and case.database.routes.map.version == before
+
+
+def a_payment_is_no_news(case):
+    """What peers are told is what the wallet has, before and after a payment with own channels, hints and failures."""
+    case.offline.fill(case.database, square())
+    network, chain = case.database.routes.map, constants.net.rev_genesis_bytes()
+    everything = b"\1\t" + chain + bytes(4) + b"\xff" * 4
+    wanted = [(channel, *[message for message, _ in updates]) for (channel, _), updates in (
+        both(AB, A, B), both(BD, B, D, 1_000), both(AC, A, C), both(CD, C, D, 2_000))]
+    before, version = network.filter(everything), network.version
+    assert sorted(before) == sorted(message for messages in wanted for message in messages) and version == len(before)
+    network.mark()
+    payer, own_scid = b"\3" + bytes(32), scid(7)
+    hint = lnrouter.RouteEdge(start_node=D, end_node=E, short_channel_id=DE, fee_base_msat=700,
+                              fee_proportional_millionths=0, cltv_expiry_delta=40, node_features=0)
+    asked = {"payer": payer, "payee": E, "private_route_edges": {DE: hint},
+             "my_sending_channels": {own_scid: OwnChannel(own_scid, payer, B, 10 * MSAT)}}
+    assert case.path(**asked) == ([own_scid, BD, DE], MSAT + 1_700)
+    case.finder.liquidity_hints.add_to_blacklist(BD)
+    assert case.path(**asked) == ([own_scid, AB, AC, CD, DE], MSAT + 7_700)
+    case.finder.liquidity_hints.add_to_blacklist(CD)
+    assert case.path(**asked) is None
+    assert network.filter(everything) == before and network.news(everything) == [] and network.version == version
+    asked_for = lnmsg.encode_msg("query_short_channel_ids", chain_hash=chain, len=17,
+                                 encoded_short_ids=b"\0" + own_scid + DE)
+    [end] = network.query(asked_for)
+    assert end[:2] == b"\1\x06"
+    database = case.database  # a direction that is pruned is no news either
+    policy = database._policies[(A, AB)]
+    database._policies[(A, AB)] = policy._replace(timestamp=NOW - 30 * DAY)
+    database.prune_old_policies(14 * DAY)
+    assert network.news(everything) == [] and len(network.filter(everything)) == len(before) - 1
+
+
+def a_payment_keeps_nobody_waiting(case):
+    """Between two searches of a payment another thread writes to the map, and pays."""
+    case.offline.fill(case.database, square())
+    found, real = [], case.finder._edge_cost
+
+    def write():
+        case.database.routes.update(update(BD, B, D, 3_000, timestamp=NOW + 100), B)
+        case.finder._edge_cost = real
+        found.append(case.path())
+
+    def cost(**asked):
+        if not found:
+            thread = threading.Thread(target=write)
+            thread.start()
+            thread.join(PATIENCE)
+            assert not thread.is_alive()
+        return real(**asked)
+
+    case.finder._edge_cost = cost
+    assert case.finder.find_payment(nodeA=A, nodeB=D, invoice_amount_msat=MSAT, final_cltv=0, payment_secret=bytes(32))
+    assert found == [OVER_C] and case.path() == OVER_C
 
 
 def a_route_does_not_take_too_long(case):
@@ -270,13 +252,13 @@ def terms(found):
 def the_map_has_the_wallets_rows(database):
     """Each channel, direction and node that the wallet's database has, field by field."""
     for own, channel in database._channels.items():
-        found = database.routes._map.channel(int.from_bytes(own, "big"))
+        found = database.routes.map.channel(int.from_bytes(own, "big"))
         assert (found.node_1, found.node_2) == (channel.node1_id, channel.node2_id)
         assert found.capacity_sat == channel.capacity_sat
         policies = [database.get_policy_for_node(own, node) for node in (channel.node1_id, channel.node2_id)]
         assert [terms(found.from_1), terms(found.from_2)] == list(map(terms, policies)), own.hex()
     for point, node in database._nodes.items():
-        found = database.routes._map.node(point)
+        found = database.routes.map.node(point)
         assert (found.timestamp, found.alias.rstrip(b"\0").decode()) == (node.timestamp, node.alias)
 
 
@@ -320,14 +302,17 @@ def main():
     parser.add_argument("--seed", type=int, default=1, metavar="N", help="of networks and payments; 1 if left out")
     options = parser.parse_args()
     tests = (the_map_follows_the_database, the_map_is_there_after_a_restart, what_failed_is_avoided,
-             own_channels_and_hints_are_used, a_hint_bans_nobody, a_route_does_not_take_too_long, a_minimum_is_held_against_the_amount,
+             own_channels_and_hints_are_used, other_channels_of_the_payer_are_not_used,
+             what_the_wallet_would_not_use_is_left_out, a_hint_bans_nobody, a_payment_is_no_news,
+             a_payment_keeps_nobody_waiting, a_route_does_not_take_too_long, a_minimum_is_held_against_the_amount,
              the_wallet_makes_ours)
     with tempfile.TemporaryDirectory() as name, Offline(name) as offline:
         folder = Path(name)
         for test in tests:
             test(Case(offline, folder / test.__name__))
         payments_agree(offline, folder, options.payments, options.seed)
-    print(f"{len(tests) + 1} passed")
+        a_wallet_without_public_channels_pays(offline, folder, options.seed)
+    print(f"{len(tests) + 2} passed")
 
 
 if __name__ == "__main__":

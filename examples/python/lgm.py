@@ -4,6 +4,11 @@
         network.offer(message, sig=ALL_FOUR, funding=100_000)
         route = network.route(payer, payee, amount_msat=1_000_000, expiry=900_000, secret=secret)
 
+What a payer knows beside the map is passed with a payment, and what failed when it is tried again:
+
+    limits = [Limit(hop.scid, hop.start, hop.amount_msat - 1)]   # of the hop that couldn't carry the amount
+    route = network.route(.., edges=own_channels + hints, silent=[payer], limits=limits, most_delay=1_008)
+
 Messages, points, chains and secrets are `bytes`, `bytearray` or `memoryview`. An argument of another type raises
 TypeError, and one out of its range ValueError, before the library is called. A call that fails raises the class of its
 fault, such as `NotNewer`; all of these are subclasses of `Fault`. Any thread may use a `Map`: the calls of one wait for
@@ -63,7 +68,7 @@ _REFUSALS = {1: "malformed", 2: "unknown-even", 3: "ignored", 4: "not-gossip", 5
              8: "private", 9: "funding", 10: "signature", 11: "unknown-channel", 12: "known", 13: "conflict",
              14: "unknown-node", 15: "not-newer", 16: "banned"}
 _REASONS = {21: "amount-zero", 22: "amount-too-large", 23: "expiry-too-large", 24: "self-payment", 25: "no-route"}
-_OTHERS = {31: "not-query", 32: "not-filter", 33: "not-announced", 100: "closed", 101: "open", 102: "no-memory",
+_OTHERS = {26: "undecided", 31: "not-query", 32: "not-filter", 33: "not-announced", 100: "closed", 101: "open", 102: "no-memory",
            103: "argument", 104: "room", 105: "full", 106: "published", 107: "none"}
 
 
@@ -81,6 +86,30 @@ globals().update({kind.__name__: kind for kind in _FAULTS.values()})
 def _check(number):
     if number != 0:
         raise _FAULTS[number]()
+
+
+@dataclass(frozen=True)
+class Edge:
+    """An edge beside the map's, by the caller's word: an own channel of the payer, whose terms don't matter and whose
+    maximum is what it can send, or a route hint of an invoice. It stands in place of the map's with its id out of `start`."""
+
+    scid: int
+    start: bytes
+    end: bytes
+    fee_base_msat: int = 0
+    fee_proportional_millionths: int = 0
+    cltv_expiry_delta: int = 0
+    htlc_minimum_msat: int = 0
+    htlc_maximum_msat: int = 2**64 - 1
+
+
+@dataclass(frozen=True)
+class Limit:
+    """What the edge with an id out of `start` carries at most. With 0 it is excluded."""
+
+    scid: int
+    start: bytes
+    most_msat: int = 0
 
 
 @dataclass(frozen=True)
@@ -183,6 +212,29 @@ def _funded(funding):
     if funding not in _FUNDINGS:
         raise ValueError(f"funding is NOT_ASKED, SPENT, WRONG or a number of satoshi, and not {funding!r:.80}")
     return _FUNDINGS[funding], 0
+
+
+def _packed_edge(edge):
+    return _c.EDGE.pack(
+        _number("an id", edge.scid, 2**64), _number("htlc_minimum_msat", edge.htlc_minimum_msat, 2**64),
+        _number("htlc_maximum_msat", edge.htlc_maximum_msat, 2**64), _number("fee_base_msat", edge.fee_base_msat, 2**32),
+        _number("fee_proportional_millionths", edge.fee_proportional_millionths, 2**32),
+        _number("cltv_expiry_delta", edge.cltv_expiry_delta, 2**16),
+        _octets("a point", edge.start, 33), _octets("a point", edge.end, 33))
+
+
+def _packed_limit(limit):
+    return _c.LIMIT.pack(_number("an id", limit.scid, 2**64), _number("most_msat", limit.most_msat, 2**64),
+                         _octets("a point", limit.start, 33))
+
+
+def _packed(name, kind, values, pack):
+    """Values of a class as C has them, one after the other, and their number."""
+    values = list(values)
+    for value in values:
+        if not isinstance(value, kind):
+            raise TypeError(f"{name} are of the class {kind.__name__}, and not {type(value).__name__}")
+    return b"".join(map(pack, values)), len(values)
 
 
 def _alone(method):
@@ -290,14 +342,26 @@ class Map:
         """Bans a node, and removes its channels, as contradicting announcements ban theirs."""
         _check(self._library.lgm_ban(self._at, _octets("a point", point, 33)))
 
-    @_alone
-    def route(self, payer, payee, amount_msat, expiry, secret):
-        """The route by which the payer sends the least."""
+    def route(self, payer, payee, amount_msat, expiry, secret, edges=(), limits=(), silent=(), most_delay=None):
+        """The route by which the payer sends the least, over edges beside the map's (`Edge`), with limits of what edges
+        carry (`Limit`), without the map's edges out of silent nodes (points), and with at most `most_delay` blocks between
+        its expiry and that of the payment.
+
+        Raises `Undecided` if there was too much to search: that says nothing about the payment."""
         payment = _c.PAYMENT.pack(
             _number("amount_msat", amount_msat, 2**64), _number("expiry", expiry, 2**32),
             _octets("a point", payer, 33), _octets("a point", payee, 33), _octets("a secret", secret, 32))
-        _check(self._library.lgm_route(
-            self._at, payment, self._hops.at, _c.MOST_HOPS, self._payloads.at, _c.MOST_PAYLOADS, self._struct.at))
+        points = [_octets("a silent node", point, 33) for point in silent]
+        delay = _c.ANY_DELAY if most_delay is None else _number("most_delay", most_delay, _c.ANY_DELAY)
+        return self._route(
+            payment, *_packed("edges", Edge, edges, _packed_edge), *_packed("limits", Limit, limits, _packed_limit),
+            b"".join(points), len(points), delay)
+
+    @_alone
+    def _route(self, *asked):
+        """The route that a call writes."""
+        _check(self._library.lgm_route_over(
+            self._at, *asked, self._hops.at, _c.MOST_HOPS, self._payloads.at, _c.MOST_PAYLOADS, self._struct.at))
         count, length = _c.LENGTHS.unpack_from(self._struct.bytes)
         payloads, end = self._payloads.front(length), 0
         hops = []

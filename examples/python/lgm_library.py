@@ -10,11 +10,14 @@ LIBRARY = os.environ.get("LGM_LIBRARY") or Path(__file__).resolve().parent.paren
 VERSION = 2
 ROOM = 104
 NONE = 107
+ANY_DELAY = 65535
 MOST_HOPS = 20
 MOST_PAYLOADS = 1300
 
 # The structs of the header, in this machine's layout. What C writes is unpacked from buffers that a handle keeps.
 PAYMENT = struct.Struct("@QI33s33s32s0Q")
+EDGE = struct.Struct("@QQQIIH33s33s0Q")
+LIMIT = struct.Struct("@QQ33s0Q")
 HOP = struct.Struct("@QQNI33s33s0Q")
 LENGTHS = struct.Struct("@NN")
 DIRECTION = struct.Struct("@?BBHIIIQQ")
@@ -38,7 +41,7 @@ CALLS = {
     "lgm_close_channel": (U32, [AT, U64]),
     "lgm_ban": (U32, [AT, BYTES]),
     "lgm_count": (SIZE, [AT]),
-    "lgm_route": (U32, [AT, BYTES, AT, SIZE, AT, SIZE, AT]),
+    "lgm_route_over": (U32, [AT, BYTES, BYTES, SIZE, BYTES, SIZE, BYTES, SIZE, ctypes.c_uint16, AT, SIZE, AT, SIZE, AT]),
     "lgm_query": (U32, ANSWERING),
     "lgm_filter": (U32, ANSWERING),
     "lgm_news": (U32, ANSWERING),

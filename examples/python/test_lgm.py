@@ -6,7 +6,9 @@
 examples/test_embedding.py tests the rest, with the library.
 """
 
+import ctypes
 import sys
+from dataclasses import replace
 
 sys.dont_write_bytecode = True  # the repository gets no made files
 
@@ -14,6 +16,7 @@ import lgm
 
 CHAIN, POINT, SECRET = bytes(32), b"\2" + bytes(32), bytes(32)
 PAYMENT = {"payer": POINT, "payee": POINT, "amount_msat": 1, "expiry": 1, "secret": SECRET}
+EDGE, LIMIT = lgm.Edge(1, POINT, POINT), lgm.Limit(1, POINT)
 
 
 class Stub:
@@ -27,6 +30,16 @@ class Stub:
             self.calls.append((name, *arguments))
             return 0
         return call
+
+
+def over_edge(network, name):
+    """A payment over an edge beside the map's, with a value in one of its fields."""
+    return lambda value: network.route(**PAYMENT, edges=[replace(EDGE, **{name: value})])
+
+
+def over_limit(network, name):
+    """The same over a limit."""
+    return lambda value: network.route(**PAYMENT, limits=[replace(LIMIT, **{name: value})])
 
 
 def refusal(call, *arguments, **named):
@@ -45,7 +58,13 @@ def numbers_have_ranges(network):
                         (lambda which: network.message(0, which), 2**32),
                         (lambda sat: network.offer(b"", lgm.ALL_FOUR, sat), 2**64),
                         (lambda msat: network.route(**{**PAYMENT, "amount_msat": msat}), 2**64),
-                        (lambda expiry: network.route(**{**PAYMENT, "expiry": expiry}), 2**32)):
+                        (lambda expiry: network.route(**{**PAYMENT, "expiry": expiry}), 2**32),
+                        (lambda delay: network.route(**PAYMENT, most_delay=b"" if delay is None else delay), 2**16 - 1),
+                        *((over_edge(network, name), below) for name, below in (
+                            ("scid", 2**64), ("htlc_minimum_msat", 2**64), ("htlc_maximum_msat", 2**64),
+                            ("fee_base_msat", 2**32), ("fee_proportional_millionths", 2**32),
+                            ("cltv_expiry_delta", 2**16))),
+                        *((over_limit(network, name), 2**64) for name in ("scid", "most_msat"))):
         for value in (-1, below, below + 1000):
             assert refusal(call, value) is ValueError, (call, value)
         for value in (1.0, True, None, b"1"):
@@ -60,7 +79,9 @@ def bytes_have_types_and_lengths(network):
              lambda seed: lgm.Map(CHAIN, seed=seed if seed is not None else 0),
              lambda known: lgm.Map(CHAIN, known=known if known is not None else 0),
              *(lambda value, name=name: network.route(**{**PAYMENT, name: value})
-               for name in ("payer", "payee", "secret"))]
+               for name in ("payer", "payee", "secret")),
+             over_edge(network, "start"), over_edge(network, "end"), over_limit(network, "start"),
+             lambda point: network.route(**PAYMENT, silent=[POINT, point])]
     for number, call in enumerate(calls):
         for value in ("00" * 33, 33, [0] * 33, None):
             assert refusal(call, value) is TypeError, (number, value)
@@ -75,6 +96,62 @@ def verdicts_are_named(network):
         assert refusal(network.offer, b"", sig) is ValueError
     for funding in ("100000", "unspent", ""):
         assert refusal(network.offer, b"", lgm.ALL_FOUR, funding) is ValueError
+
+
+def lists_have_classes(network):
+    """A limit is no edge, a hop is no limit, and a point alone isn't a list of points."""
+    for edges in ([LIMIT], [POINT], [None], EDGE):
+        assert refusal(network.route, **PAYMENT, edges=edges) is TypeError
+    for limits in ([EDGE], [(1, POINT, 0)], LIMIT):
+        assert refusal(network.route, **PAYMENT, limits=limits) is TypeError
+    assert refusal(network.route, **PAYMENT, silent=POINT) is TypeError
+
+
+def what_a_payer_knows_is_packed(library, network):
+    """Edges, limits and silent nodes come to the library as C has them, and any delay as 65,535."""
+    edge = lgm.Edge(2**64 - 1, POINT, b"\3" * 33, 2**32 - 1, 2, 3, 4)
+    limit = lgm.Limit(5, bytearray(POINT), 6)
+    for most_delay, number in ((None, 65535), (65534, 65534), (0, 0)):
+        del library.calls[:]
+        try:
+            network.route(**PAYMENT, edges=iter([edge, EDGE]), limits=(limit,), silent=[POINT, CHAIN + b"7"],
+                          most_delay=most_delay)
+        except IndexError:
+            pass  # the stub writes no hops
+        name, _, edges, edges_len, limits, limits_len, silent, silent_len, delay, *_ = library.calls[0]
+        assert (name, delay) == ("lgm_route_over", number)
+        assert (edges_len, limits_len, silent_len) == (2, 1, 2)
+        assert lgm._c.EDGE.unpack_from(edges) == (2**64 - 1, 4, 2**64 - 1, 2**32 - 1, 2, 3, POINT, b"\3" * 33)
+        assert lgm._c.EDGE.unpack_from(edges, 104) == (1, 0, 2**64 - 1, 0, 0, 0, POINT, POINT) and len(edges) == 2 * 104
+        assert lgm._c.LIMIT.unpack(limits) == (5, 6, POINT) and len(limits) == 56
+        assert silent == POINT + CHAIN + b"7"
+
+
+class Writer(Stub):
+    """A library that writes this many bytes to each buffer that has room for them."""
+
+    def __init__(self, length):
+        super().__init__()
+        self.length = length
+
+    def lgm_query(self, _at, _message, _message_len, _room, room_len, needed):
+        ctypes.c_size_t.from_address(needed).value = self.length
+        return 0 if self.length <= room_len else 104
+
+
+def large_buffers_are_given_back():
+    """A buffer of a few bytes is kept from call to call, and one of megabytes isn't."""
+    for length, is_kept in ((5_000, True), (5_000_000, False)):
+        lgm._load = lambda: Writer(length)
+        network = lgm.Map(CHAIN)
+        before = network._room
+        network._written(network._library.lgm_query, b"", 0)
+        assert (network._room.length > before.length) is is_kept and network._room.length <= 1 << 20
+
+
+def a_map_is_true(network):
+    """Also one without channels, whose length is 0."""
+    assert bool(network) and len(network) == 0
 
 
 def bytes_of_any_kind_are_taken(network, library):
@@ -101,13 +178,16 @@ def main():
     library = Stub()
     lgm._load = lambda: library
     network = lgm.Map(CHAIN)
-    refusing = (numbers_have_ranges, bytes_have_types_and_lengths, verdicts_are_named)
+    refusing = (numbers_have_ranges, bytes_have_types_and_lengths, verdicts_are_named, lists_have_classes)
     for test in refusing:
         test(network)
     assert {name for name, *_ in library.calls} <= {"lgm_open", "lgm_free"}
     bytes_of_any_kind_are_taken(network, library)
+    what_a_payer_knows_is_packed(library, network)
+    a_map_is_true(network)
     ids_have_parts()
-    print(f"{len(refusing) + 2} passed")
+    large_buffers_are_given_back()
+    print(f"{len(refusing) + 5} passed")
 
 
 if __name__ == "__main__":

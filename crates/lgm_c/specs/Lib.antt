@@ -9,6 +9,7 @@ pub mod Offering
 pub mod Wanting
 pub mod Asking
 pub mod Routing
+pub mod Attempts
 pub mod Looking
 pub mod Listing
 pub mod Words

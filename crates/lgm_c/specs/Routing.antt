@@ -30,12 +30,14 @@ abbrev pub found_or_unrouted : Result (List Hop) RouteFault → Result (List Hop
 found_or_unrouted (Ok hops) = Ok hops
 found_or_unrouted (Err reason) = Err (unrouted reason)
 
--- the hops of the best walk over the edges of the rows, for a payer who knows these feature bits, or why there is none;
--- `Full` with too many channels
+-- an answer over the edges of rows; `Full` with too many channels
+abbrev pub routed_in : Rows → Result (List Hop) RouteFault → Result (List Hop) Fault
+routed_in rows answer =
+    if nat_lt MAX_CHANNELS (length rows.channels) then Err faults.Full else found_or_unrouted answer
+
+-- the hops of the best walk over the edges of the rows, for a payer who knows these feature bits, or why there is none
 abbrev pub route_for : Request → Option (List ℕ) → Rows → Result (List Hop) Fault
-route_for request known rows =
-    if nat_lt MAX_CHANNELS (length rows.channels) then Err faults.Full
-    else found_or_unrouted (answer_of (edges_of known rows) request)
+route_for request known rows = routed_in rows (answer_of (edges_of known rows) request)
 
 -- a route was searched for: it was found, or there is none
 abbrev pub IsSearched : Result (List Hop) Fault → Type 0

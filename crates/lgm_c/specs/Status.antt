@@ -5,6 +5,8 @@ use Rattle.lgm_check.specs.declared.refusal.Refusal.{Refusal}
 use Rattle.lgm_check.specs.declared.refusal.Refusal.TheVariants as refusals
 use Rattle.lgm_route.specs.declared.fault.RouteFault.{RouteFault}
 use Rattle.lgm_route.specs.declared.fault.RouteFault.TheVariants as reasons
+use Rattle.lgm_route.specs.declared.within.LimitedFault.{LimitedFault}
+use Rattle.lgm_route.specs.declared.within.LimitedFault.TheVariants as limited
 use Rattle.lgm_c.specs.declared.fault.Fault.{Fault}
 use Rattle.lgm_c.specs.declared.fault.Fault.TheVariants as faults
 
@@ -27,6 +29,7 @@ number_of_unrouted reasons.NoMemory = no_memory
 abbrev pub number_of : Fault → ℕ
 number_of (faults.Refused refusal) = or_no_memory (number_of_refusal refusal)
 number_of (faults.Unrouted fault) = number_of_unrouted fault
+number_of faults.Undecided = 26
 number_of faults.NotQuery = 31
 number_of faults.NotFilter = 32
 number_of faults.NotAnnounced = 33
@@ -47,6 +50,11 @@ refused refusal = faults.Refused refusal
 abbrev pub unrouted : RouteFault → Fault
 unrouted reasons.NoMemory = faults.NoMemory
 unrouted reason = faults.Unrouted reason
+
+-- the same of a search within a delay
+abbrev pub unrouted_in_time : LimitedFault → Fault
+unrouted_in_time (limited.Fault reason) = unrouted reason
+unrouted_in_time limited.Undecided = faults.Undecided
 
 -- whether a call may run out of memory: one that succeeds may, one that returns a fault only if finding it allocates
 abbrev pub MayRunOut : {A E : Type 0} → Type 0 → Result A E → Type 0

@@ -5,3 +5,4 @@ pub mod Marking
 pub mod Kinds
 pub mod Following
 pub mod Framing
+pub mod Searching

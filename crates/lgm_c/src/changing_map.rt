@@ -1,18 +1,19 @@
 //! Maps that change.
 
 ghost use Rattle.std.specs.Prelude.{◌≡◌, IfOk, OnOk, OnErr};
-ghost use Rattle.lgm_gossip.specs.Memory.{GivesIf, TakesMemory};
+ghost use Rattle.lgm_gossip.specs.Memory.{TakesMemory};
 ghost use Rattle.lgm_store.specs.Rows.{empty};
 ghost use Rattle.lgm_store.specs.Admission.{admitted_close};
 ghost use Rattle.lgm_query.specs.Backlog.{news};
 ghost use Rattle.lgm_c.specs.inner.Following.{Follows};
 ghost use Rattle.lgm_c.specs.inner.Networks.{counted, counted_behind};
 ghost use Rattle.lgm_c.specs.Offering.{offered_to, admitted_ban};
-ghost use Rattle.lgm_c.specs.Routing.{route_for, IsSearched};
 ghost use Rattle.lgm_c.specs.Status.{status_of};
 ghost use Rattle.lgm_c.specs.Writing.{all_framed, buffer};
 ghost use Rattle.lgm_c.specs.inner.Framing.{MayWrite};
+ghost use Rattle.lgm_c.specs.inner.Searching.{IsRouted};
 
+use crate::attempt::Attempt;
 use crate::current::Current;
 use crate::fault::Fault;
 use crate::frames::write_first_news;
@@ -23,7 +24,7 @@ use lgm_check::{Evidence, Refusal};
 use lgm_gossip::{ChainHash, Point, Scid};
 use lgm_graph::Network;
 use lgm_query::Filter;
-use lgm_route::{Request, Route};
+use lgm_route::Route;
 use lgm_store::{Map, Op};
 use std::alloc::{AllocError, Global};
 use std::marker::Model;
@@ -154,14 +155,12 @@ impl ChangingMap {
         }
     }
 
-    /// The best route of a payment. The first search builds the view.
-    pub(crate) fn route(&mut self, alloc: Global, request: &Request) -> Result<Route, Fault>
+    /// The best route for an attempt. The first search builds the view.
+    pub(crate) fn route(&mut self, alloc: Global, attempt: &Attempt<'_>) -> Result<Route, Fault>
         ensures same { self.new ≡ self.old }
-        ensures route { GivesIf (IsSearched (route_for request.now self.old.current.known self.old.current.rows))
-            Fault.NoMemory (λ route. route) result
-            (route_for request.now self.old.current.known self.old.current.rows) }
+        ensures route { IsRouted attempt.now self.old.current.known self.old.current.rows result }
     {
-        self.current.route(alloc, request)
+        self.current.route(alloc, attempt)
     }
 
     /// The map as it is now, for good. The only error is out of memory.

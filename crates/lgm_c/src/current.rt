@@ -4,9 +4,10 @@ ghost use Rattle.std.specs.Prelude.{◌≡◌, IfOk, OnOk, OnErr};
 ghost use Rattle.lgm_gossip.specs.Memory.{GivesIf, TakesMemory};
 ghost use Rattle.lgm_c.specs.inner.Networks.{network_rows, counted, counted_behind};
 ghost use Rattle.lgm_c.specs.Offering.{offered_to};
-ghost use Rattle.lgm_c.specs.Routing.{route_for, IsSearched};
+ghost use Rattle.lgm_c.specs.inner.Searching.{IsRouted};
 ghost use Rattle.lgm_c.specs.Status.{MayRunOut};
 
+use crate::attempt::Attempt;
 use crate::edition::Edition;
 use crate::fault::Fault;
 use crate::search::{is_searched, search};
@@ -15,7 +16,7 @@ use crate::verdict::offer;
 use lgm_check::{Evidence, Refusal};
 use lgm_gossip::ChainHash;
 use lgm_graph::Network;
-use lgm_route::{Request, Route};
+use lgm_route::Route;
 use lgm_store::{Map, Op};
 use std::alloc::{AllocError, Global};
 use std::marker::Model;
@@ -102,15 +103,14 @@ impl Current {
         Ok(edition)
     }
 
-    /// The best route of a payment. The first search builds the view.
-    pub(crate) fn route(&mut self, alloc: Global, request: &Request) -> Result<Route, Fault>
+    /// The best route for an attempt. The first search builds the view.
+    pub(crate) fn route(&mut self, alloc: Global, attempt: &Attempt<'_>) -> Result<Route, Fault>
         ensures same { self.new ≡ self.old }
-        ensures route { GivesIf (IsSearched (route_for request.now self.old.known self.old.rows)) Fault.NoMemory
-            (λ route. route) result (route_for request.now self.old.known self.old.rows) }
+        ensures route { IsRouted attempt.now self.old.known self.old.rows result }
     {
-        is_searched(self.network.map(), request)?;
+        is_searched(self.network.map(), attempt)?;
         self.network.make_view(alloc)?;
-        search(alloc, &self.network, request)
+        search(alloc, &self.network, attempt)
     }
 
     /// A copy of the map, without a view. The only error is out of memory.

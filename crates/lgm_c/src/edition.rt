@@ -1,14 +1,14 @@
 //! Networks that are published.
 
 ghost use Rattle.std.specs.Prelude.{◌≡◌, IfOk, IfSome};
-ghost use Rattle.lgm_gossip.specs.Memory.{GivesIf};
 ghost use Rattle.lgm_c.specs.inner.Networks.{network_rows};
-ghost use Rattle.lgm_c.specs.Routing.{route_for, IsSearched};
+ghost use Rattle.lgm_c.specs.inner.Searching.{IsRouted};
 
+use crate::attempt::Attempt;
 use crate::fault::Fault;
 use crate::search::{is_searched, search};
 use lgm_graph::{MAX_CHANNELS, Network};
-use lgm_route::{Request, Route};
+use lgm_route::Route;
 use lgm_store::Map;
 use std::alloc::{AllocError, Global};
 use std::marker::Model;
@@ -75,12 +75,11 @@ impl Edition {
         self.network.map()
     }
 
-    /// The best route of a payment.
-    pub(crate) fn route(&self, alloc: Global, request: &Request) -> Result<Route, Fault>
-        ensures { GivesIf (IsSearched (route_for request.now self.now.known self.now.rows)) Fault.NoMemory
-            (λ route. route) result (route_for request.now self.now.known self.now.rows) }
+    /// The best route for an attempt.
+    pub(crate) fn route(&self, alloc: Global, attempt: &Attempt<'_>) -> Result<Route, Fault>
+        ensures { IsRouted attempt.now self.now.known self.now.rows result }
     {
-        is_searched(self.map(), request)?;
-        search(alloc, &self.network, request)
+        is_searched(self.map(), attempt)?;
+        search(alloc, &self.network, attempt)
     }
 }

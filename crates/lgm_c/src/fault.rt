@@ -2,12 +2,12 @@
 
 ghost use Rattle.std.specs.Prelude.{◌≡◌};
 ghost use Rattle.lgm_c.specs.Asking.{fault_of};
-ghost use Rattle.lgm_c.specs.Status.{number_of, status_of, refused, unrouted};
+ghost use Rattle.lgm_c.specs.Status.{number_of, status_of, refused, unrouted, unrouted_in_time};
 ghost use Rattle.lgm_c.specs.declared.fault.Fault.TheVariants.{NoMemory};
 
 use lgm_check::Refusal;
 use lgm_query::RequestFault;
-use lgm_route::RouteFault;
+use lgm_route::{LimitedFault, RouteFault};
 use std::alloc::AllocError;
 
 /// Why a call failed. It left the map unchanged, and the buffers that it was to write to but for what comes with
@@ -18,6 +18,8 @@ pub(crate) enum Fault {
     Refused(Refusal),
     /// 21 to 25: a payment has no route.
     Unrouted(RouteFault),
+    /// 26: the search for a route within a delay made as many labels as it may.
+    Undecided,
     /// 31: the message isn't a query.
     NotQuery,
     /// 32: the message isn't a filter.
@@ -30,7 +32,7 @@ pub(crate) enum Fault {
     Open,
     /// 102: out of memory.
     NoMemory,
-    /// 103: a number that stands for nothing, or a map that changes where a published one is to be shared.
+    /// 103: a number that stands for nothing, too many edges, or a map that changes where a published one is to be shared.
     Argument,
     /// 104: a buffer is too short for the answer.
     Room,
@@ -58,6 +60,7 @@ impl Fault {
             Fault::Unrouted(RouteFault::SelfPayment) => 24,
             Fault::Unrouted(RouteFault::NoRoute) => 25,
             Fault::Unrouted(RouteFault::NoMemory) => 102,
+            Fault::Undecided => 26,
             Fault::NotQuery => 31,
             Fault::NotFilter => 32,
             Fault::NotAnnounced => 33,
@@ -121,6 +124,17 @@ impl From<RouteFault> for Fault {
         match reason {
             RouteFault::NoMemory => Fault::NoMemory,
             reason => Fault::Unrouted(reason),
+        }
+    }
+}
+
+impl From<LimitedFault> for Fault {
+    ghost from_gives = { λ reason fault. fault ≡ unrouted_in_time reason };
+
+    fn from(reason: LimitedFault) -> Fault {
+        match reason {
+            LimitedFault::Fault(reason) => Fault::from(reason),
+            LimitedFault::Undecided => Fault::Undecided,
         }
     }
 }

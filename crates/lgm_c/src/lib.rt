@@ -8,6 +8,7 @@
 //! `LGM_ROOM` comes with: the lengths, and the node of `lgm_node`.
 #![tactic(auto)]
 
+mod attempt;
 mod boxes;
 mod changing_map;
 mod current;

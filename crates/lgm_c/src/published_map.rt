@@ -1,13 +1,13 @@
 //! Maps that were published.
 
 ghost use Rattle.std.specs.Prelude.{◌≡◌, IfOk};
-ghost use Rattle.lgm_gossip.specs.Memory.{GivesIf};
-ghost use Rattle.lgm_c.specs.Routing.{route_for, IsSearched};
 ghost use Rattle.lgm_c.specs.inner.Networks.{counted_as};
+ghost use Rattle.lgm_c.specs.inner.Searching.{IsRouted};
 
+use crate::attempt::Attempt;
 use crate::edition::Edition;
 use crate::fault::Fault;
-use lgm_route::{Request, Route};
+use lgm_route::Route;
 use lgm_store::Map;
 use std::alloc::{AllocError, Global};
 use std::marker::Model;
@@ -46,12 +46,11 @@ impl PublishedMap {
         })
     }
 
-    /// The best route of a payment.
-    pub(crate) fn route(&self, alloc: Global, request: &Request) -> Result<Route, Fault>
-        ensures { GivesIf (IsSearched (route_for request.now self.now.known self.now.rows)) Fault.NoMemory
-            (λ route. route) result (route_for request.now self.now.known self.now.rows) }
+    /// The best route for an attempt.
+    pub(crate) fn route(&self, alloc: Global, attempt: &Attempt<'_>) -> Result<Route, Fault>
+        ensures { IsRouted attempt.now self.now.known self.now.rows result }
     {
-        self.edition.route(alloc, request)
+        self.edition.route(alloc, attempt)
     }
 
     /// The map.

@@ -1,17 +1,22 @@
 //! Routes of payments.
 
-ghost use Rattle.std.specs.Prelude.{◌≡◌, List, Result, Ok, IfOk};
+ghost use Rattle.std.specs.Prelude.{◌≡◌, List, Result, Ok, IfOk, IfErr};
 ghost use Rattle.lgm_gossip.specs.Memory.{GivesIf};
 ghost use Rattle.lgm_c.specs.Routing.{request_of, route_asked, c_hop, c_hops, all_payloads};
 ghost use Rattle.lgm_c.specs.Routing.{WritesRoute, IsRouteWritten, IsSearched, buffers};
+ghost use Rattle.lgm_c.specs.Attempts.{overlay_given, attempt_given, WritesAttempt};
+ghost use Rattle.lgm_c.specs.inner.Searching.{IsTried};
 ghost use Rattle.lgm_c.specs.declared.fault.Fault.{Fault as AFault};
 ghost use Rattle.lgm_graph.specs.declared.route.Hop.{Hop as AHop};
-ghost use Rattle.lgm_c.specs.Status.{if_open, status_of};
+ghost use Rattle.lgm_c.specs.Status.{if_open, number_of, status_of};
 
+use crate::attempt::{Attempt, LgmEdge, LgmLimit, LgmPoint};
 use crate::fault::{Fault, status};
 use crate::map::{LgmMap, with_state};
 use crate::output::copy_in_front;
+use crate::state::State;
 use lgm_gossip::{Bytes, Point};
+use lgm_graph::overlays_are_lawful;
 use lgm_payload::build;
 use lgm_route::{Hop, Request, Route};
 use std::alloc::{AllocError, Global};
@@ -61,7 +66,7 @@ pub struct LgmLengths {
 }
 
 /// The request of a payment.
-fn request_of(payment: &LgmPayment) -> Request
+pub(crate) fn request_of(payment: &LgmPayment) -> Request
     ensures { result ≡ request_of payment.now }
 {
     Request {
@@ -160,13 +165,25 @@ fn write_found(
     payloads: &mut [u8],
     lengths: &mut LgmLengths,
 ) -> Result<(), Fault>
-    ensures { (expected : Result (List AHop) AFault)
+    ensures found { (expected : Result (List AHop) AFault)
         → GivesIf (IsSearched expected) Fault.NoMemory (λ route. route) found expected
         → WritesRoute expected secret.now (status_of result)
         (buffers hops.old payloads.old lengths.old)
         (buffers hops.new payloads.new lengths.new) }
+    ensures fault { IfErr found (λ fault. (status_of result ≡ number_of fault) ×
+        (buffers hops.new payloads.new lengths.new ≡ buffers hops.old payloads.old lengths.old)) }
 {
     write_route(alloc, &found?, secret, hops, payloads, lengths)
+}
+
+/// The best route of a payment over the map alone, at any delay.
+fn route(alloc: Global, state: &mut State, payment: &LgmPayment) -> Result<Route, Fault>
+    ensures same { state.new ≡ state.old }
+    ensures route { GivesIf (IsSearched (route_asked payment.now state.old.known state.old.rows)) Fault.NoMemory
+        (λ route. route) result (route_asked payment.now state.old.known state.old.rows) }
+{
+    overlays_are_lawful();
+    state.route(alloc, &Attempt::plain(payment))
 }
 
 /// The route of a payment by which the payer sends the least: its hops, from the payer on, and their payloads one after
@@ -187,7 +204,55 @@ pub extern "C" fn lgm_route(
         (buffers hops.new payloads.new lengths.new) }
 {
     with_state!(alloc, map, |state| {
-        let found = state.route(alloc, &request_of(payment));
+        let found = route(alloc, &mut state, payment);
+        status(&write_found(alloc, found, &payment.secret, hops, payloads, lengths))
+    })
+}
+
+/// The best route of a payment over what its payer knows beside the map, within a delay.
+fn route_over(
+    alloc: Global,
+    state: &mut State,
+    payment: &LgmPayment,
+    edges: &[LgmEdge],
+    limits: &[LgmLimit],
+    silent: &[LgmPoint],
+    most_delay: u16,
+) -> Result<Route, Fault>
+    ensures same { state.new ≡ state.old }
+    ensures route { IsTried (attempt_given payment.now (overlay_given edges.now limits.now silent.now) most_delay)
+        state.old result }
+{
+    let attempt = Attempt::of(payment, edges, limits, silent, most_delay)?;
+    state.route(alloc, &attempt)
+}
+
+/// The same as [`lgm_route`], over edges beside the map's, limits of what edges carry, and nodes whose edges in the map
+/// aren't used, among the routes whose delay is at most this many blocks, if it isn't `ANY_DELAY`.
+#[unsafe(no_mangle)]
+pub extern "C" fn lgm_route_over(
+    alloc: Global,
+    map: &mut LgmMap,
+    payment: &LgmPayment,
+    edges: &[LgmEdge],
+    limits: &[LgmLimit],
+    silent: &[LgmPoint],
+    most_delay: u16,
+    hops: &mut [LgmHop],
+    payloads: &mut [u8],
+    lengths: &mut LgmLengths,
+) -> u32
+    ensures same { map.new.handle.value ≡ map.old.handle.value }
+    ensures route { WritesAttempt
+        (attempt_given payment.now (overlay_given edges.now limits.now silent.now) most_delay)
+        map.old.handle.value payment.now.secret result
+        (buffers hops.old payloads.old lengths.old)
+        (buffers hops.new payloads.new lengths.new) }
+{
+    with_state!(alloc, map, |state| {
+        let found = route_over(
+            alloc, &mut state, payment, edges, limits, silent, most_delay
+        );
         status(&write_found(alloc, found, &payment.secret, hops, payloads, lengths))
     })
 }

@@ -1,17 +1,17 @@
 //! What a handle points to.
 
 ghost use Rattle.std.specs.Prelude.{◌≡◌, true, Some, IfOk};
-ghost use Rattle.lgm_gossip.specs.Memory.{GivesIf};
 ghost use Rattle.lgm_query.specs.Backlog.{news};
 ghost use Rattle.lgm_c.specs.MapState.{opened, published};
 ghost use Rattle.lgm_c.specs.Offering.{Offers, Closes, Bans};
 ghost use Rattle.lgm_c.specs.Opening.{MovesMark};
-ghost use Rattle.lgm_c.specs.Routing.{route_for, IsSearched};
 ghost use Rattle.lgm_c.specs.Status.{status_of};
 ghost use Rattle.lgm_c.specs.Writing.{all_framed, buffer};
 ghost use Rattle.lgm_c.specs.inner.Framing.{MayWrite};
 ghost use Rattle.lgm_c.specs.inner.Kinds.{counted_in};
+ghost use Rattle.lgm_c.specs.inner.Searching.{IsRouted};
 
+use crate::attempt::Attempt;
 use crate::changing_map::ChangingMap;
 use crate::fault::Fault;
 use crate::frames::write_first_news;
@@ -20,7 +20,7 @@ use lgm_check::Evidence;
 use lgm_gossip::{ChainHash, Point, Scid};
 use lgm_graph::{Known, Network};
 use lgm_query::Filter;
-use lgm_route::{Request, Route};
+use lgm_route::Route;
 use lgm_store::{Map, Seed};
 use std::alloc::{AllocError, Global};
 use std::marker::Model;
@@ -148,15 +148,14 @@ impl State {
         }
     }
 
-    /// The best route of a payment. In a map that changes, the first search builds the view.
-    pub(crate) fn route(&mut self, alloc: Global, request: &Request) -> Result<Route, Fault>
+    /// The best route for an attempt. In a map that changes, the first search builds the view.
+    pub(crate) fn route(&mut self, alloc: Global, attempt: &Attempt<'_>) -> Result<Route, Fault>
         ensures same { self.new ≡ self.old }
-        ensures route { GivesIf (IsSearched (route_for request.now self.old.known self.old.rows)) Fault.NoMemory
-            (λ route. route) result (route_for request.now self.old.known self.old.rows) }
+        ensures route { IsRouted attempt.now self.old.known self.old.rows result }
     {
         match &mut self.kind {
-            Kind::Changing(map) => map.route(alloc, request),
-            Kind::Published(map) => map.route(alloc, request),
+            Kind::Changing(map) => map.route(alloc, attempt),
+            Kind::Published(map) => map.route(alloc, attempt),
         }
     }
 

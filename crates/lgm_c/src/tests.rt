@@ -1,6 +1,7 @@
 //! Each call once with ample memory, and once at each of its faults: what no clause says, since any call may be out of
 //! memory. The numbers and lengths are worked out by hand, from BOLT 7, BOLT 4 and `docs/protocol.md`.
 
+mod attempts;
 mod bounds;
 mod listing;
 mod published;
@@ -325,6 +326,8 @@ fn words(rt: HostRuntime) {
     let mut word = [1; 24];
     lgm_word(0, &mut word);
     assert_eq!(rt; word, *b"accepted\0\0\0\0\0\0\0\0\0\0\0\0\0\0\0\0");
+    lgm_word(26, &mut word);
+    assert_eq!(rt; word, *b"undecided\0\0\0\0\0\0\0\0\0\0\0\0\0\0\0");
     lgm_word(106, &mut word);
     assert_eq!(rt; word, *b"published\0\0\0\0\0\0\0\0\0\0\0\0\0\0\0");
     lgm_word(17, &mut word);

@@ -52,6 +52,7 @@ fn word_of_call(number: u32) -> &'static str
 {
     match number {
         0 => "accepted",
+        26 => "undecided",
         31 => "not-query",
         32 => "not-filter",
         33 => "not-announced",

@@ -2,12 +2,13 @@
 //!
 //!     cargo run --offline --example calls
 
-use lgm::{Fault, Funding, Map, Sig, Which};
+use lgm::{Edge, Fault, Funding, Limit, Map, Overlay, Payment, Sig, Which};
 
 const CHAIN: [u8; 32] = [0xc1; 32];
 const SEED: [u8; 16] = [7; 16];
 const A: [u8; 33] = [2; 33];
 const B: [u8; 33] = [3; 33];
+const C: [u8; 33] = [4; 33];
 /// Channel 600000x1x0.
 const SCID: u64 = 600_000 << 40 | 1 << 16;
 
@@ -72,9 +73,57 @@ fn published_maps() -> Result<(), Fault> {
     Ok(())
 }
 
+/// An own channel of A to B, whose terms don't matter.
+fn own_channel(most_msat: u64) -> Edge {
+    Edge {
+        scid: SCID,
+        htlc_minimum_msat: 0,
+        htlc_maximum_msat: most_msat,
+        fee_base_msat: 9,
+        fee_proportional_millionths: 9,
+        cltv_expiry_delta: 9,
+        from: A,
+        to: B,
+    }
+}
+
+/// Over a channel of its own and a hint from B, which charges 5 msat and adds 30 blocks, A pays C, which the map lacks.
+fn overlays() -> Result<(), Fault> {
+    let mut map = Map::new(&CHAIN, None, &SEED)?;
+    announce(&mut map, &[])?;
+    let published = map.publish()?;
+    let payment = Payment { payer: A, payee: C, amount_msat: 10_000, expiry: 700_000, secret: [7; 32] };
+    let hint = Edge { scid: 9, htlc_maximum_msat: 50_000, fee_base_msat: 5, fee_proportional_millionths: 0,
+                      cltv_expiry_delta: 30, from: B, to: C, ..own_channel(0) };
+    let edges = [own_channel(10_005), hint];
+    let over = Overlay { edges: &edges, most_delay: Some(30), ..Overlay::default() };
+    for map in [&map, &published] {
+        assert_eq!(word(map.route(&payment)), "no-route");
+        assert_eq!(word(map.route_over(&payment, &Overlay::default())), "no-route");
+        let hops = map.route_over(&payment, &over)?;
+        let found: Vec<_> = hops.iter().map(|hop| (hop.scid, hop.amount_msat, hop.expiry, hop.from, hop.to)).collect();
+        assert_eq!(found, [(SCID, 10_005, 700_030, A, B), (9, 10_000, 700_000, B, C)]);
+        assert!(hops.iter().all(|hop| hop.payload.len() == 1 + usize::from(hop.payload[0])));
+        let limits = [Limit { scid: SCID, most_msat: 10_004, from: A }];
+        let refused = [
+            Overlay { most_delay: Some(29), ..over },
+            Overlay { limits: &limits, ..over },
+            Overlay { edges: &edges[1..], silent: &[A], ..over },
+        ];
+        for over in refused {
+            assert_eq!(word(map.route_over(&payment, &over)), "no-route");
+        }
+        assert_eq!(map.route_over(&payment, &Overlay { silent: &[A, B, C], most_delay: None, ..over })?, hops);
+        let many = vec![hint; 100_001];
+        assert_eq!(word(map.route_over(&payment, &Overlay { edges: &many, ..over })), "argument");
+    }
+    Ok(())
+}
+
 fn main() -> Result<(), Fault> {
     lists()?;
     published_maps()?;
+    overlays()?;
     println!("ok");
     Ok(())
 }

@@ -9,6 +9,8 @@ mod raw;
 use std::fmt;
 use std::sync::{Mutex, MutexGuard, PoisonError};
 
+pub use raw::{Edge, Limit};
+
 /// A compressed public key.
 pub type Point = [u8; 33];
 
@@ -81,6 +83,32 @@ pub struct Payment {
     pub expiry: u32,
     /// The payment secret, from the invoice.
     pub secret: [u8; 32],
+}
+
+impl Payment {
+    /// As C has it.
+    fn raw(&self) -> raw::Payment {
+        raw::Payment {
+            amount_msat: self.amount_msat,
+            expiry: self.expiry,
+            payer: self.payer,
+            payee: self.payee,
+            secret: self.secret,
+        }
+    }
+}
+
+/// What a payer knows beside the map, and how long a payment may lock what it sends. The default is nothing, and any delay.
+#[derive(Clone, Copy, Debug, Default)]
+pub struct Overlay<'a> {
+    /// Edges beside the map's: of those with one id out of one node the first counts.
+    pub edges: &'a [Edge],
+    /// Limits of what edges carry: the least one of an edge counts.
+    pub limits: &'a [Limit],
+    /// Nodes whose edges in the map aren't used. They may be paid, and the edges above may leave them.
+    pub silent: &'a [Point],
+    /// The most blocks between the expiry of the route and that of the payment. It may be any if this is `None` or 65,535.
+    pub most_delay: Option<u16>,
 }
 
 /// One channel of a route, with the HTLC that is offered over it.
@@ -192,24 +220,44 @@ impl Map {
 
     /// The route by which the payer sends the least, from the payer on.
     pub fn route(&self, payment: &Payment) -> Result<Vec<Hop>, Fault> {
-        let asked = raw::Payment {
-            amount_msat: payment.amount_msat,
-            expiry: payment.expiry,
-            payer: payment.payer,
-            payee: payment.payee,
-            secret: payment.secret,
-        };
-        let mut hops = [raw::Hop::default(); 20];
-        let mut payloads = [0; 1300];
-        let mut lengths = raw::Lengths::default();
-        let (room, hops_len) = (hops.as_mut_ptr(), hops.len());
-        let (payloads_room, payloads_len) = (payloads.as_mut_ptr(), payloads.len());
-        let mut handle = self.handle();
-        // SAFETY: a handle of this crate, references, and the lengths of both buffers.
-        check(unsafe {
-            raw::lgm_route(&mut *handle, &asked, room, hops_len, payloads_room, payloads_len, &mut lengths)
-        })?;
-        Ok(route(&hops[..lengths.hops], &payloads[..lengths.payloads]))
+        let (asked, mut handle) = (payment.raw(), self.handle());
+        routed(|hops, payloads, lengths| {
+            let (room, len) = (hops.as_mut_ptr(), hops.len());
+            let (bytes, bytes_len) = (payloads.as_mut_ptr(), payloads.len());
+            // SAFETY: a handle of this crate, references, and the lengths of both buffers.
+            unsafe { raw::lgm_route(&mut *handle, &asked, room, len, bytes, bytes_len, lengths) }
+        })
+    }
+
+    /// The same over what the payer knows beside the map. The fault whose word is `undecided` says nothing about the payment:
+    /// there was too much to search within the delay.
+    pub fn route_over(&self, payment: &Payment, overlay: &Overlay) -> Result<Vec<Hop>, Fault> {
+        let (asked, mut handle) = (payment.raw(), self.handle());
+        let Overlay { edges, limits, silent, most_delay } = *overlay;
+        let most_delay = most_delay.unwrap_or(raw::ANY_DELAY);
+        routed(|hops, payloads, lengths| {
+            let (room, len) = (hops.as_mut_ptr(), hops.len());
+            let (bytes, bytes_len) = (payloads.as_mut_ptr(), payloads.len());
+            // SAFETY: a handle of this crate, references, and the lengths of all lists and buffers.
+            unsafe {
+                raw::lgm_route_over(
+                    &mut *handle,
+                    &asked,
+                    edges.as_ptr(),
+                    edges.len(),
+                    limits.as_ptr(),
+                    limits.len(),
+                    silent.as_ptr(),
+                    silent.len(),
+                    most_delay,
+                    room,
+                    len,
+                    bytes,
+                    bytes_len,
+                    lengths,
+                )
+            }
+        })
     }
 
     /// The replies to a peer's query.
@@ -325,6 +373,15 @@ fn opened(open: impl FnOnce(&mut raw::Handle) -> u32) -> Result<Map, Fault> {
     let mut handle = raw::Handle::closed();
     check(open(&mut handle))?;
     Ok(Map { handle: Mutex::new(handle) })
+}
+
+/// The route that a call writes to buffers that are never too short.
+fn routed(call: impl FnOnce(&mut [raw::Hop], &mut [u8], &mut raw::Lengths) -> u32) -> Result<Vec<Hop>, Fault> {
+    let mut hops = [raw::Hop::default(); 20];
+    let mut payloads = [0; 1300];
+    let mut lengths = raw::Lengths::default();
+    check(call(&mut hops, &mut payloads, &mut lengths))?;
+    Ok(route(&hops[..lengths.hops], &payloads[..lengths.payloads]))
 }
 
 /// A route from its hops, and their payloads one after the other.

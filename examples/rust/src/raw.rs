@@ -30,6 +30,44 @@ pub struct Payment {
     pub secret: [u8; 32],
 }
 
+/// An edge beside the map's, by the caller's word: a channel of the payer's own, announced or not, or a route hint of an
+/// invoice. It stands in place of the map's with its id out of its node.
+#[repr(C)]
+#[derive(Clone, Copy, Debug)]
+pub struct Edge {
+    /// The channel, as the node that the edge leaves resolves it.
+    pub scid: u64,
+    /// The least amount of a payment over it, in msat.
+    pub htlc_minimum_msat: u64,
+    /// The greatest amount that it carries, in msat: of a channel of the payer's own, what it can send.
+    pub htlc_maximum_msat: u64,
+    /// The base fee, in msat. The payer's own channel charges nothing.
+    pub fee_base_msat: u32,
+    /// The proportional fee, in millionths.
+    pub fee_proportional_millionths: u32,
+    /// The `cltv_expiry_delta`, in blocks.
+    pub cltv_expiry_delta: u16,
+    /// The node that it leaves.
+    pub from: [u8; 33],
+    /// The node that it leads to.
+    pub to: [u8; 33],
+}
+
+/// What the edge with an id out of a node carries at most.
+#[repr(C)]
+#[derive(Clone, Copy, Debug)]
+pub struct Limit {
+    /// The channel.
+    pub scid: u64,
+    /// The greatest amount, in msat: 0 excludes the edge.
+    pub most_msat: u64,
+    /// The node that the edge leaves.
+    pub from: [u8; 33],
+}
+
+/// The delay of a route that may have any.
+pub const ANY_DELAY: u16 = 65_535;
+
 /// A point, with a default, so that arrays of hops have one.
 #[repr(transparent)]
 #[derive(Clone, Copy)]
@@ -123,6 +161,22 @@ unsafe extern "C" {
     pub fn lgm_route(
         map: *mut Handle,
         payment: *const Payment,
+        hops: *mut Hop,
+        hops_len: usize,
+        payloads: *mut u8,
+        payloads_len: usize,
+        lengths: *mut Lengths,
+    ) -> u32;
+    pub fn lgm_route_over(
+        map: *mut Handle,
+        payment: *const Payment,
+        edges: *const Edge,
+        edges_len: usize,
+        limits: *const Limit,
+        limits_len: usize,
+        silent: *const [u8; 33],
+        silent_len: usize,
+        most_delay: u16,
         hops: *mut Hop,
         hops_len: usize,
         payloads: *mut u8,

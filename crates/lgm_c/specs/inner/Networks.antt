@@ -4,7 +4,7 @@ use Rattle.lgm_store.specs.declared.op.Op.{Op}
 use Rattle.lgm_store.specs.Rows.{Rows}
 use Rattle.lgm_store.specs.History.{absorbed, fold_from}
 use Rattle.lgm_graph.specs.declared.view.TheConstants.{MAX_CHANNELS}
-use Rattle.lgm_graph.specs.Network.{NetworkState}
+use Rattle.lgm_graph.specs.Network.{NetworkState, most_points}
 use Rattle.lgm_c.specs.MapState.{next_version}
 
 -- what routes are searched in, whether there is a view or not
@@ -19,9 +19,14 @@ network_rows network = record { known = network.known; rows = network.rows }
 abbrev pub rows_behind : NetworkRows → List Op → NetworkRows
 rows_behind network ops = record { known = network.known; rows = fold_from network.rows ops }
 
--- a network that has its view, unless it has too many channels
+-- a network that has its view, which numbers no more points than are useful to the rows
+pub record HasView (network : NetworkState) : Type 0 where
+  pub there : IsSome network.graph
+  pub fits : IfSome network.graph (λ graph. length graph.points ≤ most_points network.rows)
+
+-- it has its view, unless it has too many channels
 abbrev pub IsReady : NetworkState → Type 0
-IsReady network = length network.rows.channels ≤ MAX_CHANNELS → IsSome network.graph
+IsReady network = length network.rows.channels ≤ MAX_CHANNELS → HasView network
 
 -- the current map, with the count of what was accepted
 pub record Counted : Type 0 where
