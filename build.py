@@ -2,6 +2,7 @@
 """Proves and builds the program `lgm`: the libraries that it depends on, lowest first, and then the program.
 
     python3 build.py [--at-once N] [--cpu NAME] [--library CRATE] [--keep]
+    python3 build.py --is-stale
 
 With `--library` it builds a library and its dependencies instead: examples/build-c builds `lgm_c` so.
 
@@ -11,6 +12,9 @@ Independent libraries are proved in parallel, as many as processors and memory a
 A library that is proved is left with its statements alone, which those above it read faster than proofs. Whoever is
 going to change something wants the proofs kept: with `--keep`, or where `rt check` has kept some, `rt lib` builds each
 library, and a later check begins with what it left. Then the first build takes longer.
+
+With `--is-stale` nothing is built: the exit status is 0 if a file of the program, or of a library that it depends on, is
+newer than the program, else 1.
 
 The program is built for x86-64-v3 if this machine's processor supports that, and then ends with status 127 on one that
 doesn't; a library for x86-64-v2. NAME, or LGM_CPU in the environment, is another target that the kit knows, or
@@ -283,6 +287,15 @@ def is_fresh(used, crate, builder):
     return all(it.stat().st_mtime <= stamps[0].stat().st_mtime for it in (*files_of(crate), *stamps[1:], TOP / "crates.txt"))
 
 
+def is_stale(used):
+    """Whether the program is older than a file of its crate or of a library that it depends on, or isn't there."""
+    program = folder_of(PROGRAM) / "out" / PROGRAM
+    if not program.exists():
+        return True
+    files = (file for it in (*below(used, PROGRAM), PROGRAM) for file in files_of(it))
+    return any(it.stat().st_mtime > program.stat().st_mtime for it in (TOP / "crates.txt", *files))
+
+
 def stale_of(used, crates, builder):
     """Those of some libraries, lowest first, that aren't fresh, and those above them."""
     stale = []
@@ -372,6 +385,7 @@ def arguments_of(used):
                         help=f"the processor to build for: {NEWER_CPU}, or {ANY_CPU}, for any")
     parser.add_argument("--library", choices=sorted(used), metavar="CRATE", help="build this library, not the program")
     parser.add_argument("--keep", action="store_true", help="keep the proofs, for checks of what will be changed")
+    parser.add_argument("--is-stale", action="store_true", help="build nothing, and end with 0 if the program is older than a source")
     arguments = parser.parse_args()
     arguments.cpu = arguments.cpu or (ANY_CPU if arguments.library else own_cpu())
     return arguments
@@ -381,6 +395,8 @@ def main():
     """Builds what isn't fresh. The exit status is 1 if that fails."""
     used = read_crates(TOP / "crates.txt")
     arguments = arguments_of(used)
+    if arguments.is_stale:
+        sys.exit(0 if is_stale(used) else 1)
     target = arguments.library or PROGRAM
     crates, at_once = below(used, target), max(1, arguments.at_once)
     keeps = arguments.keep or any((folder_of(it) / "out" / "incremental").is_dir() for it in (*crates, target))

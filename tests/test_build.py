@@ -199,7 +199,7 @@ def says_what_failed(place):
     (place.kit / "bin" / "rt").unlink()
     bare = place.top.parent / "bare"
     bare.mkdir()
-    for name in ("sh", "find", "head", "dirname", "readlink", "awk"):
+    for name in ("sh", "find", "head", "dirname", "readlink"):
         (bare / name).symlink_to(shutil.which(name))
     place.path = str(bare)
     for words in (("./lgm", "run"), ("./lgm", "try", "run")):
