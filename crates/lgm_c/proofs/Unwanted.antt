@@ -1,5 +1,5 @@
 -- Messages that aren't wanted.
-use Rattle.std.proofs.Common.{◌≡◌, ◌⊎◌, ℕ, List, Result, Ok, Err, inl, inr, refl, ap}
+use Rattle.std.proofs.Common.{◌≡◌, ◌⊎◌, ℕ, List, Result, Ok, Err, inl, inr, refl, ap, ◌∙◌}
 use Rattle.std.specs.Result.{IsErrAnd}
 use Rattle.lgm_wire.specs.declared.point.Point.{Point}
 use Rattle.lgm_gossip.specs.Layout.{AnnouncesNothing}

@@ -3,6 +3,7 @@
 use super::{A, B, CHAIN, SCID, filtered, joined, news, offered, opened, queried, query};
 use crate::map::LgmMap;
 use crate::offers::{lgm_free, lgm_offer, lgm_open};
+use crate::publications::{lgm_publish, lgm_share};
 use crate::queries::lgm_mark;
 use std::alloc::{AllocError, Global};
 use std::fs;
@@ -111,6 +112,51 @@ fn a_mark_keeps_few_operations(rt: HostRuntime) -> Result<(), Fail> {
     assert_eq!(rt; news(alloc, &mut map, &filter, &mut []), (104, 65_543));
     lgm_mark(alloc, &mut map);
     assert_eq!(rt; news(alloc, &mut map, &filter, &mut []), (0, 0));
+    lgm_free(alloc, &mut map);
+    Ok(())
+}
+
+/// 8,000 updates after a publication, 512,000 KiB. As many as the map has channels, and one more, wait to be applied to
+/// the published map when it is published again; with more, it is copied then.
+#[test]
+fn a_publication_keeps_few_operations(rt: HostRuntime) -> Result<(), Fail> {
+    let alloc = rt.alloc();
+    let mut map = opened(alloc)?;
+    let mut first = LgmMap::closed();
+    assert_eq!(rt; lgm_publish(alloc, &mut map, &mut first), 0);
+    let before = most_memory(&rt)?;
+    for timestamp in 6..8_006u32 {
+        let update = long_update(alloc, timestamp)?;
+        assert_eq!(rt; offered(alloc, &mut map, &update, 2, 0), 0);
+    }
+    let more = most_memory(&rt)?.saturating_sub(before);
+    assert!(rt; more < 400_000, "{more} KiB more");
+    lgm_free(alloc, &mut first);
+    lgm_free(alloc, &mut map);
+    Ok(())
+}
+
+/// 4,000 owners of a published map. Each is a handle of some hundred bytes; with a copy of the map, whose lookup caches
+/// alone have 4 KiB each, they would take 48,000 KiB at least.
+#[test]
+fn sharing_copies_no_map(rt: HostRuntime) -> Result<(), Fail> {
+    let alloc = rt.alloc();
+    let mut map = opened(alloc)?;
+    let mut first = LgmMap::closed();
+    assert_eq!(rt; lgm_publish(alloc, &mut map, &mut first), 0);
+    let mut others = Vec::with_capacity(alloc, 4_000)?;
+    let before = most_memory(&rt)?;
+    for _ in 0..4_000 {
+        let mut other = LgmMap::closed();
+        assert_eq!(rt; lgm_share(alloc, &mut first, &mut other), 0);
+        others.push(other)?;
+    }
+    let more = most_memory(&rt)?.saturating_sub(before);
+    assert!(rt; more < 8_000, "{more} KiB more");
+    for mut other in others {
+        lgm_free(alloc, &mut other);
+    }
+    lgm_free(alloc, &mut first);
     lgm_free(alloc, &mut map);
     Ok(())
 }

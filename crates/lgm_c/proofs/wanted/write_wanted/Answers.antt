@@ -14,6 +14,6 @@ returns-in_err-verdict c =
     let bytes = c.args.bytes.now in
     let other : Point = record { 0 = c.args.signer.now } in
     told (TakesMemory bytes) (wanted c.args.chain.now rows bytes other) (key_in (right_verdicts rows bytes other).sig other)
-    c.in_err-verdict.field-0.0 c.from_residual-in_err-verdict.result c.args.signer.now
+    c.in_err-verdict.field-0.0 c.from_residual.result c.args.signer.now
     (subst (λ (evidence : Evidence). Fails (TakesMemory bytes) (offered_to c.args.chain.now rows bytes evidence) c.in_err-verdict.field-0.0)
-    c.right_verdicts.ensures c.in_err-verdict.ensures.refused) c.from_residual-in_err-verdict.ensures.1
+    c.right_verdicts-evidence.ensures c.in_err-verdict.ensures.refused) c.from_residual.ensures.1
