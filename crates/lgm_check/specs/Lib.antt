@@ -1,5 +1,6 @@
 pub mod Refusal
 pub mod Row
+pub mod CheckedKind
 pub mod Precheck
 pub mod Accepted
 pub mod inner

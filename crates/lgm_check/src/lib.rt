@@ -2,6 +2,7 @@
 //! output that the caller supplies.
 //!
 //! [`precheck`] returns the row that the message would add to a map, or the first [`Refusal`] in a fixed order.
+//! [`precheck_kind`] returns what such a row has in addition to the bytes of the message.
 //! [`accepted_exactly`] says what an accepted message is, without reference to any order.
 //!
 //! Rows are stored as the bytes of their messages: [`StoredChannel`], [`StoredUpdate`], [`StoredNode`]. Contracts see
@@ -19,8 +20,8 @@ mod validation;
 
 pub use evidence::{Evidence, Funding, Sig};
 pub use refusal::Refusal;
-pub use row::{BanRow, ChannelRow, Checked, NodeRow, UpdateRow};
+pub use row::{BanRow, ChannelRow, Checked, CheckedKind, NodeRow, Signer, UpdateRow};
 pub use stored_channel::StoredChannel;
 pub use stored_node::StoredNode;
 pub use stored_update::StoredUpdate;
-pub use validation::{MAX_SAT, accepted_exactly, precheck};
+pub use validation::{MAX_SAT, accepted_exactly, precheck, precheck_kind};

@@ -6,6 +6,7 @@ ghost use Rattle.lgm_gossip.specs.reading.NodeAnnounceReading.{node_len};
 ghost use Rattle.lgm_check.specs.Row.{channel_row, update_row, node_row};
 
 use lgm_gossip::{Announce, BorrowedBytes, ChannelUpdate, NodeAnnounce, Point, Scid};
+use std::marker::Model;
 
 /// A channel: its announcement, its capacity, and the bytes to forward.
 #[derive(Debug, Drop)]
@@ -141,4 +142,45 @@ pub enum Checked<'a> {
     Update(UpdateRow<'a>, Point),
     /// Of a `node_announcement`.
     Node(NodeRow<'a>),
+}
+
+/// The point that signed a message, borrowed from the evidence. Contracts see the point.
+#[derive(Debug, Drop)]
+pub struct Signer<'a> {
+    point: &'a Point,
+}
+
+impl<'a> Model for Signer<'a> {
+    ghost use Rattle.lgm_wire.specs.declared.point.Point.{Point};
+
+    ghost Value = { Point };
+
+    ghost view = { λ signer. signer.point.now };
+}
+
+impl<'a> Signer<'a> {
+    /// Borrows this point.
+    pub(crate) fn new(point: &'a Point) -> Signer<'a>
+        ensures { result ≡ point.now }
+    {
+        Signer { point }
+    }
+
+    /// The point, with the lifetime of the evidence.
+    pub fn point(&self) -> &'a Point
+        ensures { result.now ≡ self.now }
+    {
+        self.point
+    }
+}
+
+/// The type of a message that passed validation, and what its row has in addition to the bytes.
+#[derive(Debug, Drop)]
+pub enum CheckedKind<'a> {
+    /// Of a `channel_announcement`, and the capacity in satoshi.
+    Channel(u64),
+    /// Of a `channel_update`, and the point that signed it.
+    Update(Signer<'a>),
+    /// Of a `node_announcement`.
+    Node,
 }

@@ -3,6 +3,8 @@
 ghost use Rattle.std.specs.Prelude.{◌≡◌, IfOk, if◌then◌else◌};
 ghost use Rattle.lgm_gossip.specs.Message.{Wire};
 ghost use Rattle.lgm_gossip.specs.declared.message.Message.TheVariants as messages;
+ghost use Rattle.lgm_gossip.specs.Layout.{IsAnnounce};
+ghost use Rattle.lgm_check.specs.Row.{channel_row};
 
 use crate::raw::Raw;
 use crate::row::ChannelRow;
@@ -32,7 +34,6 @@ impl Model for StoredChannel {
 
 impl StoredChannel {
     /// Stores a row whose bytes encode its message, by a copy of them.
-    #[inline(always)]
     pub fn of(alloc: Global, row: &ChannelRow) -> Result<StoredChannel, AllocError>
         requires { Wire (messages.Announce row.now.message) row.now.raw }
         ensures { IfOk result (λ kept. kept ≡ row.now) }
@@ -40,6 +41,17 @@ impl StoredChannel {
         Ok(StoredChannel {
             sat: row.sat,
             raw: Raw::copied(alloc, row.raw.as_slice())?,
+        })
+    }
+
+    /// Stores the row that these bytes encode, by a copy of them.
+    pub fn of_bytes(alloc: Global, raw: &[u8], sat: u64) -> Result<StoredChannel, AllocError>
+        requires { IsAnnounce raw.now }
+        ensures { IfOk result (λ kept. kept ≡ channel_row sat raw.now) }
+    {
+        Ok(StoredChannel {
+            sat,
+            raw: Raw::copied(alloc, raw)?,
         })
     }
 
@@ -66,6 +78,7 @@ impl StoredChannel {
     }
 
     /// The channel id.
+    #[inline(always)]
     pub fn scid(&self) -> Scid
         ensures { result ≡ self.now.message.short_channel_id }
     {
@@ -73,6 +86,7 @@ impl StoredChannel {
     }
 
     /// Node 2 if `second`, else node 1.
+    #[inline(always)]
     pub fn node(&self, second: bool) -> Point
         ensures { result ≡ (if second then self.now.message.node_id_2 else self.now.message.node_id_1) }
     {

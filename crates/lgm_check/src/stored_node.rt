@@ -3,6 +3,8 @@
 ghost use Rattle.std.specs.Prelude.{◌≡◌, IfOk};
 ghost use Rattle.lgm_gossip.specs.Message.{Wire};
 ghost use Rattle.lgm_gossip.specs.declared.message.Message.TheVariants as messages;
+ghost use Rattle.lgm_gossip.specs.Layout.{IsNodeAnnounce};
+ghost use Rattle.lgm_check.specs.Row.{node_row};
 
 use crate::row::NodeRow;
 use lgm_gossip::{Bytes, NodeAnnounce, Point};
@@ -30,13 +32,22 @@ impl Model for StoredNode {
 
 impl StoredNode {
     /// Stores a row whose bytes encode its message, by a copy of them.
-    #[inline(always)]
     pub fn of(alloc: Global, row: &NodeRow) -> Result<StoredNode, AllocError>
         requires { Wire (messages.NodeAnnounce row.now.message) row.now.raw }
         ensures { IfOk result (λ kept. kept ≡ row.now) }
     {
         Ok(StoredNode {
             raw: Bytes::from_slice(alloc, row.raw.as_slice())?,
+        })
+    }
+
+    /// Stores the row that these bytes encode, by a copy of them.
+    pub fn of_bytes(alloc: Global, raw: &[u8]) -> Result<StoredNode, AllocError>
+        requires { IsNodeAnnounce raw.now }
+        ensures { IfOk result (λ kept. kept ≡ node_row raw.now) }
+    {
+        Ok(StoredNode {
+            raw: Bytes::from_slice(alloc, raw)?,
         })
     }
 
@@ -63,6 +74,7 @@ impl StoredNode {
     }
 
     /// The timestamp, in seconds since 1970.
+    #[inline(always)]
     pub fn timestamp(&self) -> u32
         ensures { result ≡ self.now.message.timestamp }
     {
@@ -70,6 +82,7 @@ impl StoredNode {
     }
 
     /// The node.
+    #[inline(always)]
     pub fn node(&self) -> Point
         ensures { result ≡ self.now.message.node_id }
     {

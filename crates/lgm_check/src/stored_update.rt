@@ -3,6 +3,8 @@
 ghost use Rattle.std.specs.Prelude.{◌≡◌, ◌%◌, ◌==◌, IfOk};
 ghost use Rattle.lgm_gossip.specs.Message.{Wire};
 ghost use Rattle.lgm_gossip.specs.declared.message.Message.TheVariants as messages;
+ghost use Rattle.lgm_gossip.specs.Layout.{IsUpdate};
+ghost use Rattle.lgm_check.specs.Row.{update_row};
 
 use crate::raw::Raw;
 use crate::row::UpdateRow;
@@ -31,13 +33,22 @@ impl Model for StoredUpdate {
 
 impl StoredUpdate {
     /// Stores a row whose bytes encode its message, by a copy of them.
-    #[inline(always)]
     pub fn of(alloc: Global, row: &UpdateRow) -> Result<StoredUpdate, AllocError>
         requires { Wire (messages.ChannelUpdate row.now.message) row.now.raw }
         ensures { IfOk result (λ kept. kept ≡ row.now) }
     {
         Ok(StoredUpdate {
             raw: Raw::copied(alloc, row.raw.as_slice())?,
+        })
+    }
+
+    /// Stores the row that these bytes encode, by a copy of them.
+    pub fn of_bytes(alloc: Global, raw: &[u8]) -> Result<StoredUpdate, AllocError>
+        requires { IsUpdate raw.now }
+        ensures { IfOk result (λ kept. kept ≡ update_row raw.now) }
+    {
+        Ok(StoredUpdate {
+            raw: Raw::copied(alloc, raw)?,
         })
     }
 
@@ -64,6 +75,7 @@ impl StoredUpdate {
     }
 
     /// The channel id.
+    #[inline(always)]
     pub fn scid(&self) -> Scid
         ensures { result ≡ self.now.message.short_channel_id }
     {
@@ -71,6 +83,7 @@ impl StoredUpdate {
     }
 
     /// The timestamp, in seconds since 1970.
+    #[inline(always)]
     pub fn timestamp(&self) -> u32
         ensures { result ≡ self.now.message.timestamp }
     {
@@ -78,6 +91,7 @@ impl StoredUpdate {
     }
 
     /// Whether the direction is from node 2: bit 0 of `channel_flags`.
+    #[inline(always)]
     pub fn is_second(&self) -> bool
         ensures { result ≡ (self.now.message.channel_flags % 2 == 1) }
     {

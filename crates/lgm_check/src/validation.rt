@@ -9,17 +9,18 @@ ghost use Rattle.lgm_gossip.specs.reading.MessageReading.{message_at};
 ghost use Rattle.lgm_check.specs.declared.evidence.Evidence.{Evidence};
 ghost use Rattle.lgm_check.specs.declared.row.Checked.{Checked};
 ghost use Rattle.lgm_check.specs.declared.refusal.Refusal.TheVariants.{NoMemory};
+ghost use Rattle.lgm_check.specs.CheckedKind.{row_of, Fits};
 ghost use Rattle.lgm_check.specs.Accepted.{IsAccepted};
 ghost use Rattle.lgm_check.specs.Precheck.{require as requirement, has_lawful_points, are_in_order};
 ghost use Rattle.lgm_check.specs.Precheck.{capacity_of, is_all_four, is_private, signer_of};
+ghost use Rattle.lgm_check.specs.Precheck.{channel_of, update_of, node_of};
 ghost use Rattle.lgm_check.specs.Precheck.{checked_announce, checked_update, checked_node, checked_of};
 
 use crate::evidence::{Evidence, Funding, Sig};
 use crate::refusal::Refusal;
-use crate::row::{ChannelRow, Checked, NodeRow, UpdateRow};
+use crate::row::{ChannelRow, Checked, CheckedKind, NodeRow, Signer, UpdateRow};
 use lgm_gossip::{
-    Announce, BorrowedBytes, ChainHash, ChannelUpdate, Layout, NodeAnnounce, Point, decode,
-    layout_of,
+    Announce, ChainHash, ChannelUpdate, Layout, NodeAnnounce, Point, decode, layout_of,
 };
 use std::alloc::Global;
 
@@ -72,24 +73,19 @@ fn is_all_four(sig: Sig) -> bool
     matches!(sig, Sig::AllFour(true))
 }
 
-/// The row of a `channel_announcement`, or the first refusal.
+/// The capacity of a channel in satoshi, from its `channel_announcement`, or the first refusal.
 #[tactic(auto, unfolding(crate::specs::Precheck::checked_announce))]
 #[inline(always)]
-fn announce<'a>(
-    chain: &ChainHash,
-    message: Announce<'a>,
-    bytes: &'a [u8],
-    evidence: &Evidence,
-) -> Result<Checked<'a>, Refusal>
-    ensures { Sees (λ made. made) result (checked_announce chain.now message.entry bytes.now evidence.now) }
+fn announce(chain: &ChainHash, message: &Announce, evidence: &Evidence) -> Result<u64, Refusal>
+    ensures { (bytes : List ℕ) → Sees (λ sat. channel_of message.now sat bytes) result
+        (checked_announce chain.now message.now bytes evidence.now) }
 {
     require(message.chain_hash == *chain, Refusal::Chain)?;
-    require(has_lawful_points(&message), Refusal::Point)?;
-    require(are_in_order(&message), Refusal::NodeOrder)?;
+    require(has_lawful_points(message), Refusal::Point)?;
+    require(are_in_order(message), Refusal::NodeOrder)?;
     let sat = capacity(evidence.funding)?;
     require(is_all_four(evidence.sig), Refusal::Signature)?;
-    let raw = BorrowedBytes::new(bytes);
-    Ok(Checked::Channel(ChannelRow { message, sat, raw }))
+    Ok(sat)
 }
 
 /// Whether an update must not be forwarded: bit 1 of its message flags, `dont_forward`.
@@ -111,39 +107,32 @@ fn signer(sig: &Sig) -> Result<&Point, Refusal>
     }
 }
 
-/// The row of a `channel_update`, or the first refusal.
+/// The point that signed a `channel_update`, or the first refusal.
 #[tactic(auto, unfolding(crate::specs::Precheck::checked_update))]
 #[inline(always)]
 fn update<'a>(
     chain: &ChainHash,
-    message: ChannelUpdate<'a>,
-    bytes: &'a [u8],
-    evidence: &Evidence,
-) -> Result<Checked<'a>, Refusal>
-    ensures { Sees (λ made. made) result (checked_update chain.now message.entry bytes.now evidence.now) }
+    message: &ChannelUpdate,
+    evidence: &'a Evidence,
+) -> Result<Signer<'a>, Refusal>
+    ensures { (bytes : List ℕ) → Sees (λ signer. update_of message.now signer bytes) result
+        (checked_update chain.now message.now bytes evidence.now) }
 {
     require(message.chain_hash == *chain, Refusal::Chain)?;
-    require(!is_private(&message), Refusal::Private)?;
-    let signer = *signer(&evidence.sig)?;
-    let raw = BorrowedBytes::new(bytes);
-    Ok(Checked::Update(UpdateRow { message, raw }, signer))
+    require(!is_private(message), Refusal::Private)?;
+    Ok(Signer::new(signer(&evidence.sig)?))
 }
 
-/// The row of a `node_announcement`, or the first refusal.
+/// Whether a `node_announcement` is accepted, or the first refusal.
 #[tactic(auto, unfolding(crate::specs::Precheck::checked_node))]
 #[inline(always)]
-fn node<'a>(
-    message: NodeAnnounce<'a>,
-    bytes: &'a [u8],
-    evidence: &Evidence,
-) -> Result<Checked<'a>, Refusal>
-    ensures { Sees (λ made. made) result (checked_node message.entry bytes.now evidence.now) }
+fn node(message: &NodeAnnounce, evidence: &Evidence) -> Result<(), Refusal>
+    ensures { (bytes : List ℕ) → Sees (λ _. node_of message.now bytes) result
+        (checked_node message.now bytes evidence.now) }
 {
     require(message.node_id.lawful(), Refusal::Point)?;
     let signer = signer(&evidence.sig)?;
-    require(*signer == message.node_id, Refusal::Signature)?;
-    let raw = BorrowedBytes::new(bytes);
-    Ok(Checked::Node(NodeRow { message, raw }))
+    require(*signer == message.node_id, Refusal::Signature)
 }
 
 /// Why bytes that announce nothing are refused.
@@ -159,8 +148,49 @@ fn other(alloc: Global, chain: &ChainHash, bytes: &[u8], evidence: &Evidence) ->
     }
 }
 
-/// The row of any message, or its first refusal.
+/// What the row of any bytes has in addition to them, or the first refusal.
 #[tactic(auto, unfolding(crate::specs::Precheck::checked_of))]
+#[inline(always)]
+fn check_kind<'a>(
+    alloc: Global,
+    chain: &ChainHash,
+    bytes: &[u8],
+    evidence: &'a Evidence,
+) -> Result<CheckedKind<'a>, Refusal>
+    ensures exact { GivesIf (TakesMemory bytes.now) Refusal.NoMemory (λ kind. row_of kind bytes.now) result
+        (checked_of chain.now bytes.now evidence.now) }
+    ensures fits { IfOk result (λ kind. Fits kind bytes.now) }
+{
+    match layout_of(bytes) {
+        Layout::Announce => {
+            let sat = announce(chain, &Announce::in_bytes(bytes), evidence)?;
+            Ok(CheckedKind::Channel(sat))
+        }
+        Layout::Update => {
+            let signer = update(chain, &ChannelUpdate::in_bytes(bytes), evidence)?;
+            Ok(CheckedKind::Update(signer))
+        }
+        Layout::Node => {
+            node(&NodeAnnounce::in_bytes(bytes), evidence)?;
+            Ok(CheckedKind::Node)
+        }
+        Layout::Other => Err(other(alloc, chain, bytes, evidence)),
+    }
+}
+
+/// The row of the bytes and of what was found in addition to them.
+fn row<'a>(kind: CheckedKind, bytes: &'a [u8]) -> Checked<'a>
+    requires { Fits kind bytes.now }
+    ensures { result ≡ row_of kind.entry bytes.now }
+{
+    match kind {
+        CheckedKind::Channel(sat) => Checked::Channel(ChannelRow::in_bytes(bytes, sat)),
+        CheckedKind::Update(signer) => Checked::Update(UpdateRow::in_bytes(bytes), *signer.point()),
+        CheckedKind::Node => Checked::Node(NodeRow::in_bytes(bytes)),
+    }
+}
+
+/// The row of any message, or its first refusal.
 #[inline(always)]
 fn check<'a>(
     alloc: Global,
@@ -171,12 +201,7 @@ fn check<'a>(
     ensures { GivesIf (TakesMemory bytes.now) Refusal.NoMemory (λ made. made) result
         (checked_of chain.now bytes.now evidence.now) }
 {
-    match layout_of(bytes) {
-        Layout::Announce => announce(chain, Announce::in_bytes(bytes), bytes, evidence),
-        Layout::Update => update(chain, ChannelUpdate::in_bytes(bytes), bytes, evidence),
-        Layout::Node => node(NodeAnnounce::in_bytes(bytes), bytes, evidence),
-        Layout::Other => Err(other(alloc, chain, bytes, evidence)),
-    }
+    Ok(row(check_kind(alloc, chain, bytes, evidence)?, bytes))
 }
 
 /// The row that a message would add to a map, or the first refusal, in the order of their numbers up to 10 (BOLT 7,
@@ -188,7 +213,7 @@ fn check<'a>(
 /// `private` and 10 `signature` (no node's), for a node announcement 6 `point` and 10 `signature` (not the node's). Any
 /// bytes of any length are allowed.
 ///
-/// The row borrows the bytes. The function is compiled into its caller, so a field that isn't used isn't read. `NoMemory` is no verdict on the message: it comes only if what [`decode`] stores of a
+/// The row borrows the bytes. `NoMemory` is no verdict on the message: it comes only if what [`decode`] stores of a
 /// query or a reply couldn't be allocated. For an announcement or an update nothing is allocated.
 #[inline(always)]
 pub fn precheck<'a>(
@@ -211,6 +236,31 @@ pub fn precheck<'a>(
         ⊎ TakesMemory bytes.now }
 {
     check(alloc, chain, bytes, evidence)
+}
+
+/// Validates a message as [`precheck`] does, and returns what its row has in addition to the bytes.
+///
+/// The refusals are those of `precheck`. No row is made, so this is faster for a caller that has the bytes.
+#[inline(always)]
+pub fn precheck_kind<'a>(
+    alloc: Global,
+    chain: &ChainHash,
+    bytes: &[u8],
+    evidence: &'a Evidence,
+) -> Result<CheckedKind<'a>, Refusal>
+    // A message is accepted only if it is to be accepted, as the row that it and the bytes make.
+    ensures accepted { IfOk result (λ kind. IsAccepted chain.now bytes.now evidence.now (row_of kind bytes.now)) }
+    ensures fits { IfOk result (λ kind. Fits kind bytes.now) }
+
+    // That row, or the first refusal in the order.
+    ensures exact { Gives Refusal.NoMemory (λ kind. row_of kind bytes.now) result
+        (checked_of chain.now bytes.now evidence.now) }
+
+    // Out of memory comes only if decoding allocates.
+    ensures memory { Sees (λ kind. row_of kind bytes.now) result (checked_of chain.now bytes.now evidence.now)
+        ⊎ TakesMemory bytes.now }
+{
+    check_kind(alloc, chain, bytes, evidence)
 }
 
 /// A law of acceptance, stated by the contract; the call does nothing.

@@ -1,12 +1,17 @@
 //! Messages that are ready to be offered to a map.
 
+ghost use Rattle.std.specs.Prelude.{◌≡◌, IfOk};
 ghost use Rattle.lgm_wire.specs.reading.Reading.{Gives};
 ghost use Rattle.lgm_check.specs.Precheck.{checked_of};
+ghost use Rattle.lgm_check.specs.CheckedKind.{row_of, Fits};
+ghost use Rattle.lgm_store.specs.inner.CheckedMessage.{message_of};
 
 use crate::shared::Shared;
-use lgm_check::{Checked, Evidence, Refusal, StoredChannel, StoredNode, StoredUpdate, precheck};
+use lgm_check::{
+    CheckedKind, Evidence, Refusal, StoredChannel, StoredNode, StoredUpdate, precheck_kind,
+};
 use lgm_gossip::{ChainHash, Point};
-use std::alloc::Global;
+use std::alloc::{AllocError, Global};
 use std::marker::Model;
 
 /// A message that passed all checks without a map, ready to be offered to one. Contracts see what `precheck` returns.
@@ -53,20 +58,30 @@ impl CheckedMessage {
         ensures { Gives Refusal.NoMemory (λ made. made) result
             (checked_of chain.now bytes.now evidence.now) }
     {
-        let kind = match precheck(alloc, chain, bytes, evidence)? {
-            Checked::Channel(row) => {
-                let stored = StoredChannel::of(alloc, &row)?;
-                Kind::Channel(Shared::new(alloc, stored)?)
-            }
-            Checked::Update(row, signer) => {
-                let stored = StoredUpdate::of(alloc, &row)?;
-                Kind::Update(Shared::new(alloc, stored)?, signer)
-            }
-            Checked::Node(row) => {
-                let stored = StoredNode::of(alloc, &row)?;
-                Kind::Node(Shared::new(alloc, stored)?)
-            }
-        };
-        Ok(CheckedMessage { kind })
+        let checked = precheck_kind(alloc, chain, bytes, evidence)?;
+        Ok(CheckedMessage {
+            kind: keep(alloc, bytes, checked)?,
+        })
+    }
+}
+
+/// The stored row: a copy of the bytes, with the capacity of a channel.
+fn keep(alloc: Global, bytes: &[u8], checked: CheckedKind<'_>) -> Result<Kind, AllocError>
+    requires { Fits checked bytes.now }
+    ensures { IfOk result (λ kind. message_of kind ≡ row_of checked.entry bytes.now) }
+{
+    match checked {
+        CheckedKind::Channel(sat) => {
+            let row = StoredChannel::of_bytes(alloc, bytes, sat)?;
+            Ok(Kind::Channel(Shared::new(alloc, row)?))
+        }
+        CheckedKind::Update(signer) => {
+            let row = StoredUpdate::of_bytes(alloc, bytes)?;
+            Ok(Kind::Update(Shared::new(alloc, row)?, *signer.point()))
+        }
+        CheckedKind::Node => {
+            let row = StoredNode::of_bytes(alloc, bytes)?;
+            Ok(Kind::Node(Shared::new(alloc, row)?))
+        }
     }
 }
