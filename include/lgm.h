@@ -88,8 +88,7 @@ enum {
      * if memory is short. lgm_filter returns LGM_ROOM even then.
      */
     LGM_NO_MEMORY = 102,
-    /* A number that stands for no verdict or message; too many edges; a map that changes, where only a published one is
-     * shared. */
+    /* A number that stands for no verdict or message; too many edges; a map that changes, where a published one is wanted. */
     LGM_ARGUMENT = 103,
     /* A buffer is too short. The lengths that are needed were written. */
     LGM_ROOM = 104,
@@ -248,7 +247,8 @@ typedef struct {
     uint64_t scid; /* as the node that the edge leaves resolves it */
     uint64_t htlc_minimum_msat;
     uint64_t htlc_maximum_msat; /* of a channel of the payer's own, what it can send */
-    uint32_t fee_base_msat;     /* the payer's own channel charges nothing: its terms don't matter */
+    /* The payer's own channel charges nothing and adds no delay, so of one these don't matter. */
+    uint32_t fee_base_msat;
     uint32_t fee_proportional_millionths;
     uint16_t cltv_expiry_delta;
     uint8_t from[33]; /* the node that it leaves */
@@ -272,7 +272,7 @@ typedef struct {
 /* The most edges of a call. */
 #define LGM_MOST_EDGES 100000
 
-/* The most labels that a search within a delay makes. */
+/* The most labels that a search within a delay makes, of 45 bytes each: up to some 47 MB, which are given back. */
 #define LGM_MOST_LABELS 1000000
 
 /*

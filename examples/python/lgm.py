@@ -90,8 +90,9 @@ def _check(number):
 
 @dataclass(frozen=True)
 class Edge:
-    """An edge beside the map's, by the caller's word: an own channel of the payer, whose terms don't matter and whose
-    maximum is what it can send, or a route hint of an invoice. It stands in place of the map's with its id out of `start`."""
+    """An edge beside the map's, by the caller's word: an own channel of the payer, whose maximum is what it can send, and
+    whose fees and delta don't matter; or a route hint of an invoice. It stands in place of the map's with its id out of
+    `start`."""
 
     scid: int
     start: bytes

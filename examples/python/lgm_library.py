@@ -31,7 +31,7 @@ BYTES, AT = ctypes.c_char_p, ctypes.c_void_p
 SIZE, U32, U64 = ctypes.c_size_t, ctypes.c_uint32, ctypes.c_uint64
 ANSWERING = [AT, BYTES, SIZE, AT, SIZE, AT]
 
-# Each call of the library: its result and its arguments.
+# The calls of the library that are used here, each with its result and its arguments.
 CALLS = {
     "lgm_version": (U32, []),
     "lgm_open": (U32, [AT, BYTES, ctypes.c_bool, BYTES, SIZE, BYTES]),

@@ -85,7 +85,7 @@ pub record IsOverDelay (attempt : AttemptParts) (known : Option (List ℕ)) (row
 
 -- ---- what a call does
 
--- the route in a map; too many edges are none that C may pass
+-- the route in the map of a handle; `Argument` with more edges than C may pass
 abbrev pub route_tried : AttemptParts → MapState → Result (List Hop) Fault
 route_tried attempt state =
     if nat_lt MOST_EDGES (length attempt.overlay.extra) then Err faults.Argument

@@ -19,7 +19,7 @@ network_rows network = record { known = network.known; rows = network.rows }
 abbrev pub rows_behind : NetworkRows → List Op → NetworkRows
 rows_behind network ops = record { known = network.known; rows = fold_from network.rows ops }
 
--- a network that has its view, which numbers no more points than are useful to the rows
+-- a network that has its view, which numbers no more points than one of these rows may
 pub record HasView (network : NetworkState) : Type 0 where
   pub there : IsSome network.graph
   pub fits : IfSome network.graph (λ graph. length graph.points ≤ most_points network.rows)
