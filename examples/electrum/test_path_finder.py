@@ -35,6 +35,7 @@ from cases import (A, AA, AB, AC, B, BD, C, CD, D, DAY, DE, E, MSAT, NOW, OVER_B
 from comparing import compared
 from offline import PATIENCE, Messages, Offline, made_network
 from private_wallet import a_wallet_without_public_channels_pays
+from route_map import lgm
 
 CHANNELS = (56, 562, 5_625)  # of 20, 200 and 2,000 nodes
 
@@ -196,11 +197,24 @@ def a_payment_keeps_nobody_waiting(case):
 
 
 def a_route_does_not_take_too_long(case):
-    """Over B each of two directions would take 2,000 blocks, so the payer would wait for 28 days."""
+    """Over B each of two directions would take 2,000 blocks, so the payer would wait for 28 days. So it is if the library says
+    that there is too much to search."""
     parts = [both(AB, A, B), both(BD, B, C, 0, 2_000), both(CD, C, D, 0, 2_000), both(AC, A, E), both(DE, E, D, 4_000)]
     case.offline.fill(case.database, Messages([one for one, _ in parts], [two for _, own in parts for two in own], []))
     assert case.path() == ([AC, DE], MSAT + 4_000)
     assert case.path(payee=C) == ([AB, BD], MSAT)
+    real, calls = case.database.routes.route, []
+
+    def undecided_first(*payment, **known):
+        calls.append(known)
+        if len(calls) == 1:
+            raise lgm.Undecided
+        return real(*payment, **known)
+
+    case.database.routes.route = undecided_first
+    asked = {"nodeA": A, "nodeB": D, "invoice_amount_msat": MSAT}
+    assert case.finder.find_payment(final_cltv=0, payment_secret=bytes(32), **asked).sent_msat == MSAT + 4_000
+    assert [known["most_delay"] is None for known in calls] == [False, True, False]
 
 
 def a_minimum_is_held_against_the_amount(case):
