@@ -6,7 +6,7 @@
 A page names things in `code spans`. Checked are
 
 - links to files of the repository, and to headings in them;
-- paths, as `examples/client.py` or `lgm_wire/specs`, also behind `python3`, and modules of specs, as `inner/ScidSet`;
+- paths, as `examples/tools/client.py` or `lgm_wire/specs`, also behind `python3`, and modules of specs, as `inner/ScidSet`;
 - calls, as `Map::absorb`, and definitions of a module, as `Script.text_for`;
 - clauses behind calls, as `decode`: `found`, `only`, each of which one of the calls before the colon has to have;
 - all other names, which have to occur somewhere outside the pages, unless they are those of the kit or of a tool;

@@ -1,7 +1,7 @@
 #!/usr/bin/env python3
 """Tests why_route.py on each of its causes, over small networks that are made for it.
 
-    python3 examples/test_why_route.py [PROGRAM]
+    python3 examples/tools/test_why_route.py [PROGRAM]
 """
 
 import subprocess
@@ -12,9 +12,12 @@ from pathlib import Path
 
 sys.dont_write_bytecode = True  # the repository gets no made files
 
+sys.path.append(str(Path(__file__).resolve().parent.parent / "network"))
+
 from made_sources import A, B, C, FIRST, HERE, NOBODY, SECOND, TERMS_OF_A, TERMS_OF_B, channel, messages, node, update
 
-PROGRAM = sys.argv[1] if len(sys.argv) > 1 else HERE.parent / "lgm"
+EXAMPLES = HERE.parent
+PROGRAM = sys.argv[1] if len(sys.argv) > 1 else EXAMPLES.parent / "lgm"
 D, E = b"\x02" + bytes([13]) * 32, b"\x02" + bytes([14]) * 32
 THIRD = messages.short_channel_id(700_002, 3, 0)
 SECRET = "11" * 32
@@ -63,7 +66,7 @@ def explained(lines, payer=A, payee=C, msat=MSAT, *options, expiry=800_000):
     with tempfile.TemporaryDirectory() as folder:
         path = Path(folder) / "network.txt"
         path.write_text("".join(f"{line}\n" for line in lines))
-        words = [sys.executable, "-B", HERE / "why_route.py", "--program", PROGRAM, *options, path, payment]
+        words = [sys.executable, "-B", EXAMPLES / "tools" / "why_route.py", "--program", PROGRAM, *options, path, payment]
         done = subprocess.run(words, capture_output=True, text=True, check=False)
     assert done.returncode != 1, done.stderr
     return done.returncode, done.stdout.splitlines()

@@ -1,7 +1,7 @@
 #!/usr/bin/env python3
 """Explains a payment without a route: which condition decides, and what is wrong with the channels of payer and payee.
 
-    python3 examples/why_route.py [--known HEX] [--chain HEX] [--program PROGRAM] NETWORK 'route PAYER PAYEE ..'
+    python3 examples/tools/why_route.py [--known HEX] [--chain HEX] [--program PROGRAM] NETWORK 'route PAYER PAYEE ..'
 
 NETWORK is a script with the items of the map; of its other lines only `commit` matters. The program answers the payment
 over the map as it is, and then over maps that are made from it, in each of which one condition doesn't hold: minima,
@@ -29,7 +29,7 @@ REASONS = {
     "amount-too-large": "MSAT is above 2,100,000,000,000,000,000, all there is",
     "expiry-too-large": "EXPIRY is a block height, and above 498,000,000; is it a time?",
     "self-payment": "PAYER and PAYEE are the same node",
-    "bad": "the line doesn't match the grammar; python3 examples/why.py names the field"}
+    "bad": "the line doesn't match the grammar; python3 examples/tools/why.py names the field"}
 LISTED = 10  # channels of one node
 
 

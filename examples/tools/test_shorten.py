@@ -1,7 +1,7 @@
 #!/usr/bin/env python3
 """Tests shorten.py: the shorter list gives the same map, bans included, and no line of it can be left out.
 
-    python3 examples/test_shorten.py [PROGRAM]
+    python3 examples/tools/test_shorten.py [PROGRAM]
 
 The maps are compared by all of their messages, by routes, and by what an announcement of each node is answered.
 """
@@ -14,11 +14,14 @@ from pathlib import Path
 
 sys.dont_write_bytecode = True  # the repository gets no made files
 
+sys.path.append(str(Path(__file__).resolve().parent.parent / "network"))
+
 from made_sources import HERE, channel, messages
 from network import Network  # of bench, where made_sources.py leads to
 from workloads import bans, churn, route_line
 
-PROGRAM = sys.argv[1] if len(sys.argv) > 1 else HERE.parent / "lgm"
+EXAMPLES = HERE.parent
+PROGRAM = sys.argv[1] if len(sys.argv) > 1 else EXAMPLES.parent / "lgm"
 CHAIN = messages.CHAIN.hex()
 FRESH = messages.short_channel_id(5_000_000, 1, 0)  # an id that no script has
 POINT = b"\x03" + b"\xff" * 32  # the other end of it, above all nodes
@@ -42,7 +45,7 @@ def shortened(kept):
     with tempfile.TemporaryDirectory() as folder:
         path = Path(folder) / "kept"
         path.write_text("".join(f"{line}\n" for line in kept))
-        words = [sys.executable, "-B", HERE / "shorten.py", "--program", PROGRAM, path]
+        words = [sys.executable, "-B", EXAMPLES / "tools" / "shorten.py", "--program", PROGRAM, path]
         done = subprocess.run(words, capture_output=True, text=True, check=False)
     assert done.returncode == 0, done.stderr
     return done.stdout.splitlines()
@@ -89,7 +92,7 @@ def is_the_same(kept, payments=()):
 def examples_are_shortened():
     """Announcements, bans, updates and closes of the examples; no line of the shorter list can be left out."""
     names = ("announcements.txt", "map.txt", "queries.txt")
-    lines = [line for name in names for line in (HERE / name).read_text().split("\n")]
+    lines = [line for name in names for line in (EXAMPLES / name).read_text().split("\n")]
     kept = kept_of(lines)
     shorter = is_the_same(kept)
     assert 0 < len(shorter) < len(kept), (len(shorter), len(kept))
@@ -119,7 +122,7 @@ def a_made_network_is_shortened():
 
 def what_was_refused_is_left_out():
     """Refused items, comments and other lines don't matter; nothing is left of nothing."""
-    lines = (HERE / "map.txt").read_text().split("\n")
+    lines = (EXAMPLES / "map.txt").read_text().split("\n")
     assert shortened(lines) == shortened(kept_of(lines))
     first, *_ = kept_of(lines)
     assert shortened([first, f"close {close_of(first)}"]) == []
@@ -133,8 +136,8 @@ def close_of(line):
 
 def a_fault_writes_nothing():
     """A program that fails, and a file without an announcement."""
-    for words in (["--program", "/bin/false", HERE / "map.txt"], ["/dev/null"]):
-        words = [sys.executable, "-B", HERE / "shorten.py", *words]
+    for words in (["--program", "/bin/false", EXAMPLES / "map.txt"], ["/dev/null"]):
+        words = [sys.executable, "-B", EXAMPLES / "tools" / "shorten.py", *words]
         done = subprocess.run(words, capture_output=True, text=True, check=False)
         assert (done.returncode, done.stdout) == (1, "") and done.stderr.startswith("shorten: "), done
 

@@ -19,12 +19,12 @@ from collections import Counter
 from pathlib import Path
 from typing import NamedTuple
 
-HERE = Path(__file__).resolve().parent
-sys.path.append(str(HERE / "network"))
+EXAMPLES = Path(__file__).resolve().parent.parent
+sys.path.append(str(EXAMPLES / "network"))
 
 from messages import Channel, Fault, Node, parsed
 
-PROGRAM = HERE.parent / "lgm"
+PROGRAM = EXAMPLES.parent / "lgm"
 ITEMS = ("m", "close")
 BANNED, CLOSED = "banned", "closed"
 

@@ -1,7 +1,7 @@
 #!/usr/bin/env python3
 """Shortens the lines that are kept for a restart: writes the least list of them that gives the same map, bans included.
 
-    python3 examples/shorten.py [--chain HEX] [--program PROGRAM] KEPT > shorter.txt
+    python3 examples/tools/shorten.py [--chain HEX] [--program PROGRAM] KEPT > shorter.txt
 
 KEPT has the items that were accepted so far, `m` and `close` lines in their order; other lines, and items that are
 refused, are left out. What is written is, in this order: for each ban its two announcements; the announcement of each

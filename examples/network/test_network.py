@@ -2,7 +2,7 @@
 """Tests the converters of examples/network and its table: on three nodes from each kind of source, run through `lgm` up
 to a route that is worked out here; on records and rows of all kinds; on faults; and on a synthetic network.
 
-    python3 examples/test_network.py [PROGRAM]
+    python3 examples/network/test_network.py [PROGRAM]
 """
 
 import subprocess
@@ -20,7 +20,7 @@ from made_sources import (
 from network import Network  # of bench, where made_sources.py leads to
 from workloads import sync
 
-PROGRAM = sys.argv[1] if len(sys.argv) > 1 else HERE.parent / "lgm"
+PROGRAM = sys.argv[1] if len(sys.argv) > 1 else HERE.parent.parent / "lgm"
 CHAIN = messages.CHAIN.hex()
 NAMES = {"A": A, "B": B, "C": C, "nobody": NOBODY, "first": FIRST, "second": SECOND}
 
@@ -41,7 +41,7 @@ def converted(content, *options):
     with tempfile.TemporaryDirectory() as folder:
         path = Path(folder) / "source"
         path.write_bytes(content)
-        words = [sys.executable, "-B", HERE / "network", *options, path]
+        words = [sys.executable, "-B", HERE, *options, path]
         done = subprocess.run(words, capture_output=True, text=True, check=False)
     said = done.stderr.replace(str(path), "FILE").splitlines()
     return done.returncode, done.stdout.splitlines(), said
@@ -359,7 +359,7 @@ def the_table_follows_closes_and_counts_what_it_leaves_out():
 
 
 def the_table_takes_what_lgm_accepts():
-    content = (HERE / "map.txt").read_bytes()
+    content = (HERE.parent / "map.txt").read_bytes()
     given = [line for line in content.decode().splitlines() if line.startswith(("m ", "close "))]
     refused = [word for word in answers(given) if word != "accepted"]
     assert values(converted(content, "--summary")[1])["items not taken"] == str(len(refused)) == "6", refused
