@@ -23,9 +23,9 @@ if not interpreter.goes_on_with_electrum():
 from electrum import channel_db, constants
 
 from offline import Offline, decoded, made_network
+from top import TOP
 
-EXAMPLES = Path(__file__).resolve().parent.parent
-PROGRAM = sys.argv[1] if len(sys.argv) > 1 else EXAMPLES.parent / "lgm"
+PROGRAM = sys.argv[1] if len(sys.argv) > 1 else TOP / "lgm"
 CHANNELS = 200
 
 
@@ -53,7 +53,7 @@ def main():
     """Converts the file, and lets `lgm` take the script."""
     messages = made_network(CHANNELS, 1)
     with tempfile.TemporaryDirectory() as folder:
-        words = [sys.executable, "-B", EXAMPLES / "network", written(folder, messages)]
+        words = [sys.executable, "-B", TOP / "examples" / "network", written(folder, messages)]
         done = subprocess.run(words, capture_output=True, text=True, check=True)
     said = done.stderr.splitlines()
     assert len(said) == 1 and said[0].endswith(" is a gossip_db of Electrum"), said

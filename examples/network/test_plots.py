@@ -17,8 +17,8 @@ from xml.etree import ElementTree
 sys.dont_write_bytecode = True  # the repository gets no made files
 
 import plots
+from top import TOP
 
-HERE = Path(__file__).resolve().parent
 SYSTEMS = "/usr/bin/python3"
 TITLES = {"Capacity", "Channels of a node", "Base fee", "Rate"}
 
@@ -35,14 +35,14 @@ def summed_up(python, script, *options, **environment):
     with tempfile.TemporaryDirectory() as folder:
         path = Path(folder) / "script"
         path.write_text(script)
-        words = [python, "-B", HERE, "--summary", *options, path]
+        words = [python, "-B", TOP / "examples" / "network", "--summary", *options, path]
         done = subprocess.run(words, capture_output=True, text=True, check=False, env={**os.environ, **environment})
     return done.returncode, done.stdout, [line for line in done.stderr.splitlines() if line.startswith("network: ")]
 
 
 def made_script(channels):
     """A synthetic network."""
-    words = [sys.executable, HERE.parent.parent / "bench" / "make_script.py", "--channels", str(channels)]
+    words = [sys.executable, TOP / "bench" / "make_script.py", "--channels", str(channels)]
     return subprocess.run(words, capture_output=True, text=True, check=True).stdout
 
 

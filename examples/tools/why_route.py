@@ -18,9 +18,11 @@ from __future__ import annotations
 import argparse
 import sys
 
+import top  # leads to gossip
 from history import PROGRAM, Failed, answered, chain_of, followed, read
-from messages import scid_text  # of examples/network, where history.py leads to
 from route_conditions import CONDITIONS, MSAT, Made, objections
+
+from gossip.messages import scid_of, scid_text
 
 MOST_HOPS = 20
 LADDER = [10**exponent for exponent in range(16)]
@@ -78,8 +80,7 @@ class Inquiry:
         found = [["", []] for _ in payments]
         for number, words in answered(self._program, self._chain, [*lines, *payments], known and self._digits):
             if number >= first and words.startswith("hop "):
-                block, index, output = map(int, words.split(" ")[1].split("x"))
-                found[number - first][1].append((block << 40 | index << 16 | output).to_bytes(8, "big"))
+                found[number - first][1].append(scid_of(words.split(" ")[1]))
             elif number >= first:
                 found[number - first][0] = words
         return found
