@@ -59,7 +59,8 @@ def database_lines(database):
     updates, private = policies(database)
     count = database.execute("SELECT count(*) FROM channel_info").fetchone()[0]
     points = set()
-    for scid, message, channel in Progress(count).over(rows(database, "channel_info", "short_channel_id", CHANNEL_ANNOUNCEMENT)):
+    channels = rows(database, "channel_info", "short_channel_id", CHANNEL_ANNOUNCEMENT)
+    for scid, message, channel in Progress(count).over(channels):
         if channel.scid != scid:
             raise Fault(f"channel_info {scid.hex()}: the message is of the channel {scid_text(channel.scid)}")
         points.update(channel.nodes)

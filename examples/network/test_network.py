@@ -24,6 +24,7 @@ from gossip.three_nodes import A, B, C, FIRST, NOBODY, SECOND, TERMS_OF_A, TERMS
 from gossip.workloads import sync
 
 PROGRAM = sys.argv[1] if len(sys.argv) > 1 else TOP / "lgm"
+EXAMPLES = TOP / "examples"
 CHAIN = messages.CHAIN.hex()
 NAMES = {"A": A, "B": B, "C": C, "nobody": NOBODY, "first": FIRST, "second": SECOND}
 
@@ -44,7 +45,7 @@ def converted(content, *options):
     with tempfile.TemporaryDirectory() as folder:
         path = Path(folder) / "source"
         path.write_bytes(content)
-        words = [sys.executable, "-B", TOP / "examples" / "network", *options, path]
+        words = [sys.executable, "-B", EXAMPLES / "network", *options, path]
         done = subprocess.run(words, capture_output=True, text=True, check=False)
     said = done.stderr.replace(str(path), "FILE").splitlines()
     return done.returncode, done.stdout.splitlines(), said
@@ -361,7 +362,7 @@ def the_table_follows_closes_and_counts_what_it_leaves_out():
 
 
 def the_table_takes_what_lgm_accepts():
-    content = (TOP / "examples" / "map.txt").read_bytes()
+    content = (EXAMPLES / "map.txt").read_bytes()
     given = [line for line in content.decode().splitlines() if line.startswith(("m ", "close "))]
     refused = [word for word in answers(given) if word != "accepted"]
     assert values(converted(content, "--summary")[1])["items not taken"] == str(len(refused)) == "6", refused

@@ -23,6 +23,7 @@ from gossip.workloads import bans, churn, route_line
 
 EXAMPLES = TOP / "examples"
 PROGRAM = sys.argv[1] if len(sys.argv) > 1 else TOP / "lgm"
+TOOL = EXAMPLES / "tools" / "shorten.py"
 CHAIN = messages.CHAIN.hex()
 FRESH = messages.short_channel_id(5_000_000, 1, 0)  # an id that no script has
 POINT = b"\x03" + b"\xff" * 32  # the other end of it, above all nodes
@@ -46,7 +47,7 @@ def shortened(kept):
     with tempfile.TemporaryDirectory() as folder:
         path = Path(folder) / "kept"
         path.write_text("".join(f"{line}\n" for line in kept))
-        words = [sys.executable, "-B", EXAMPLES / "tools" / "shorten.py", "--program", PROGRAM, path]
+        words = [sys.executable, "-B", TOOL, "--program", PROGRAM, path]
         done = subprocess.run(words, capture_output=True, text=True, check=False)
     assert done.returncode == 0, done.stderr
     return done.stdout.splitlines()
@@ -131,7 +132,7 @@ def close_of(line):
 def a_fault_writes_nothing():
     """A program that fails, and a file without an announcement."""
     for words in (["--program", "/bin/false", EXAMPLES / "map.txt"], ["/dev/null"]):
-        words = [sys.executable, "-B", EXAMPLES / "tools" / "shorten.py", *words]
+        words = [sys.executable, "-B", TOOL, *words]
         done = subprocess.run(words, capture_output=True, text=True, check=False)
         assert (done.returncode, done.stdout) == (1, "") and done.stderr.startswith("shorten: "), done
 

@@ -18,6 +18,7 @@ from gossip.messages import channel_line, short_channel_id, signed_line
 from gossip.three_nodes import A, B, C, FIRST, NOBODY, SECOND, TERMS_OF_A, TERMS_OF_B, channel, node, update
 
 PROGRAM = sys.argv[1] if len(sys.argv) > 1 else TOP / "lgm"
+TOOL = TOP / "examples" / "tools" / "why_route.py"
 D, E = b"\x02" + bytes([13]) * 32, b"\x02" + bytes([14]) * 32
 THIRD = short_channel_id(700_002, 3, 0)
 SECRET = "11" * 32
@@ -65,7 +66,7 @@ def explained(lines, payer=A, payee=C, msat=MSAT, *options, expiry=800_000):
     with tempfile.TemporaryDirectory() as folder:
         path = Path(folder) / "network.txt"
         path.write_text("".join(f"{line}\n" for line in lines))
-        words = [sys.executable, "-B", TOP / "examples" / "tools" / "why_route.py", "--program", PROGRAM, *options, path, payment]
+        words = [sys.executable, "-B", TOOL, "--program", PROGRAM, *options, path, payment]
         done = subprocess.run(words, capture_output=True, text=True, check=False)
     assert done.returncode != 1, done.stderr
     return done.returncode, done.stdout.splitlines()
