@@ -21,12 +21,13 @@ from pathlib import Path
 
 sys.dont_write_bytecode = True  # the repository gets no made files
 
-import messages
 import running
 from measure import PROGRAM
-from network import NOW
+from top import TOP
 
-TOP = running.HERE.parent
+from gossip.messages import CHAIN, gossip_timestamp_filter
+from gossip.networks import NOW
+
 EXAMPLES = TOP / "examples"
 RESTART = ("dump", "load")  # which `lgm run` has no counterpart of
 SIGS = {"all": 0, "not-all": 1, "nobody": 3}
@@ -84,10 +85,10 @@ def write_calls(file, items, payments):
 
 def measure_c(options, program, file):
     """The minimum times of each kind of call, and the number of routes."""
-    newest = messages.gossip_timestamp_filter(NOW - HOUR, 2 * HOUR)
+    newest = gossip_timestamp_filter(NOW - HOUR, 2 * HOUR)
     taken, found = {}, None
     for _ in range(options.runs):
-        ran = subprocess.run([program, messages.CHAIN.hex(), newest.hex(), file], stdout=subprocess.PIPE, check=True)
+        ran = subprocess.run([program, CHAIN.hex(), newest.hex(), file], stdout=subprocess.PIPE, check=True)
         for line in ran.stdout.decode().splitlines():
             kind, count, *seconds = line.split()
             if seconds:
@@ -100,7 +101,6 @@ def measure_c(options, program, file):
 def measure_python(options, items, folder):
     """The minimum times of all offers through examples/python/lgm.py, and of dump.py's `dump` and `load`."""
     os.environ["LGM_LIBRARY"] = str(options.library / "liblgm.so")
-    sys.path.insert(0, str(EXAMPLES / "python"))
     import dump
     import lgm
     names = {number: name for name, number in SIGS.items()}
@@ -109,7 +109,7 @@ def measure_python(options, items, folder):
         for message, sig, signer, funding, sat in items]
     runs, file = [], Path(folder, "dump")
     for _ in range(options.runs):
-        with lgm.Map(messages.CHAIN) as network:
+        with lgm.Map(CHAIN) as network:
             times = [time.process_time()]
             offer = network.offer
             for message, sig, funding in arguments:
@@ -117,7 +117,7 @@ def measure_python(options, items, folder):
             times.append(time.process_time())
             dump.dump(network, file)
             times.append(time.process_time())
-            dump.load(file, messages.CHAIN).close()
+            dump.load(file, CHAIN).close()
             times.append(time.process_time())
         runs.append([end - start for start, end in zip(times, times[1:])])
     return [min(run) for run in zip(*runs)], file.stat().st_size

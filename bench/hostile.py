@@ -14,9 +14,12 @@ from pathlib import Path
 
 sys.dont_write_bytecode = True  # the repository gets no made files
 
-import messages
 import running
+import top  # leads to gossip
 from measure import MEGABYTE, PROGRAM
+
+from gossip.messages import (
+    CHAIN, HAS_MAXIMUM, ChannelAnnouncement, ChannelUpdate, channel_line, short_channel_id, signed_line)
 
 AMOUNT = 1_000_000  # msat
 EXPIRY = 700_000
@@ -52,13 +55,10 @@ def point(number):
 
 def channel(block, first, second, fees):
     """A channel from a node to a later one, and the update of that direction."""
-    scid = messages.short_channel_id(block, 0, 0)
-    nodes = (point(first), point(second))
-    announcement = messages.channel_announcement(bytes(256), scid, nodes, nodes)
-    terms = (40, 1, *fees, CAPACITY * 1000)
-    update = messages.channel_update(bytes(64), scid, 1, 0, terms)
-    yield f"m {announcement.hex()} all {CAPACITY}\n"
-    yield f"m {update.hex()} {nodes[0].hex()} -\n"
+    scid, nodes = short_channel_id(block, 0, 0), (point(first), point(second))
+    yield channel_line(ChannelAnnouncement(CHAIN, scid, nodes).encode(bitcoin_keys=nodes), CAPACITY)
+    update = ChannelUpdate(CHAIN, scid, 1, HAS_MAXIMUM, 0, 40, 1, *fees, CAPACITY * 1000)
+    yield signed_line(update.encode(), nodes[0])
 
 
 def channels(size, charges, beside):

@@ -6,8 +6,10 @@ import sys
 
 sys.dont_write_bytecode = True  # the repository gets no made files
 
-from network import Network
-from workloads import WORKLOADS
+import top  # leads to gossip
+
+from gossip.networks import Network
+from gossip.workloads import WORKLOADS
 
 
 def words():

@@ -17,9 +17,11 @@ sys.dont_write_bytecode = True  # the repository gets no made files
 
 import running
 from plot import plot
-from workloads import WORKLOADS
+from top import TOP
 
-PROGRAM = running.HERE.parent / "crates/lgm/out/lgm"
+from gossip.workloads import WORKLOADS
+
+PROGRAM = TOP / "crates/lgm/out/lgm"
 PLOT = running.HERE / "growth.svg"
 SIZES = (10_000, 20_000, 45_000, 100_000, 200_000)
 MEGABYTE = 1_000_000

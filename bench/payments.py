@@ -20,12 +20,10 @@ from typing import NamedTuple
 sys.dont_write_bytecode = True  # the repository gets no made files
 
 import running
-from workloads import ROUTES
-
-TOP = running.HERE.parent
-sys.path.insert(0, str(TOP))
+from top import TOP
 
 import build
+from gossip.workloads import ROUTES
 
 CRATE = "payments"
 USES = ["lgm_script", "lgm_route", "lgm_graph", "lgm_store", "lgm_check", "lgm_gossip", "lgm_wire"]

@@ -14,8 +14,10 @@ from pathlib import Path
 sys.dont_write_bytecode = True  # the repository gets no made files
 
 import running
+import top  # leads to gossip
 from measure import PROGRAM
-from workloads import LIVE_ROUTES_A_ROUND, ROUNDS, ROUTES
+
+from gossip.workloads import LIVE_ROUTES_A_ROUND, ROUNDS, ROUTES
 
 SCRIPTS = ("sync", "routes", "updates", "live")
 

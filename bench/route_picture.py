@@ -9,14 +9,19 @@ with `lgm`.
 """
 
 import heapq
+import sys
 from html import escape
-from pathlib import Path
 from typing import NamedTuple
 
-from network import Network
-from workloads import sync
+sys.dont_write_bytecode = True  # the repository gets no made files
 
-PICTURE = Path(__file__).resolve().parent.parent / "docs" / "route.svg"
+import top  # leads to gossip
+
+from gossip.messages import ChannelAnnouncement, ChannelUpdate, decode
+from gossip.networks import Network
+from gossip.workloads import sync
+
+PICTURE = top.TOP / "docs" / "route.svg"
 CHANNELS, SEED = 60, 18
 AMOUNT = 10_000_000  # msat
 EXPIRY, SECRET = 920_000, "11" * 32
@@ -46,19 +51,16 @@ def edges_of(script):
     """The edges that the lines of a script announce."""
     channels, edges = {}, []
     for line in script:
-        words = line.split()
-        message = bytes.fromhex(words[1]) if words[0] == "m" else b""
-        if message[:2] == b"\1\0":
-            place = 260 + int.from_bytes(message[258:260], "big") + 32
-            scid = message[place:place + 8]
-            channels[scid] = message[place + 8:place + 41], message[place + 41:place + 74], int(words[3])
-        elif message[:2] == b"\1\2":
-            scid, flags = message[98:106], message[111]
-            one, other, capacity = channels[scid]
-            number = [int.from_bytes(message[a:b], "big") for a, b in ((114, 122), (122, 126), (126, 130), (130, 138))]
-            source, target = (other, one) if flags & 1 else (one, other)
-            if not flags & 2 and number[3] <= 1_000 * capacity:
-                edges.append(Edge(scid, source, target, *number))
+        word, *fields = line.split()
+        said = decode(bytes.fromhex(fields[0])) if word == "m" else None
+        if isinstance(said, ChannelAnnouncement):
+            channels[said.scid] = said.nodes, int(fields[2])
+        elif isinstance(said, ChannelUpdate):
+            nodes, capacity = channels[said.scid]
+            if not said.is_disabled and said.htlc_maximum_msat <= 1_000 * capacity:
+                source, target = nodes[said.direction], nodes[1 - said.direction]
+                edges.append(Edge(said.scid, source, target, said.htlc_minimum_msat, said.fee_base_msat,
+                                  said.fee_proportional_millionths, said.htlc_maximum_msat))
     return edges
 
 

@@ -8,7 +8,9 @@ import time
 from pathlib import Path
 from typing import NamedTuple
 
-import messages
+import top  # leads to gossip
+
+from gossip.messages import CHAIN
 
 HERE = Path(__file__).resolve().parent
 PEAK_UNIT = 1 if sys.platform == "darwin" else 1024  # bytes; the unit of ru_maxrss
@@ -48,7 +50,7 @@ def repeat_payments(script):
 def command(program, workload, workers):
     """The words that run the program: `lgm live` for the workload of that name."""
     name = "live" if workload == "live" else "run"
-    return [program, name, "--chain", messages.CHAIN.hex(), "--workers", str(workers)]
+    return [program, name, "--chain", CHAIN.hex(), "--workers", str(workers)]
 
 
 def run(words, script):

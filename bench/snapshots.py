@@ -18,10 +18,11 @@ from pathlib import Path
 
 sys.dont_write_bytecode = True  # the repository gets no made files
 
-import messages
 import running
+from top import TOP
 
-TOP = running.HERE.parent
+from gossip.messages import CHAIN
+
 EXAMPLES = TOP / "examples"
 BATCH = 1_000
 PAUSE = 50  # milliseconds, after each publication
@@ -53,7 +54,7 @@ def measure(options, program, script, readers, times):
     best = 0, None, None
     for _ in range(options.runs):
         with open(script, "rb") as reader:
-            said = subprocess.run([program, "-q", messages.CHAIN.hex(), str(readers), str(BATCH), str(PAUSE), str(times)],
+            said = subprocess.run([program, "-q", CHAIN.hex(), str(readers), str(BATCH), str(PAUSE), str(times)],
                                   stdin=reader, stderr=subprocess.PIPE, text=True, check=True).stderr
         others = re.search(r"others \d+, median ([\d.]+) ms, ([\d.]+) ms at most", said)
         best = max(best, (int(re.search(r"(\d+) a second", said)[1]), *(others.groups() if others else (None, None))))

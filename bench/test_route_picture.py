@@ -6,19 +6,15 @@
 
 import subprocess
 import sys
-from pathlib import Path
 
 sys.dont_write_bytecode = True  # the repository gets no made files
 
-from messages import CHAIN
 from route_picture import AMOUNT, EXPIRY, PICTURE, SECRET, found, picture
+from top import TOP
 
-PROGRAM = sys.argv[1] if len(sys.argv) > 1 else Path(__file__).resolve().parent.parent / "lgm"
+from gossip.messages import CHAIN, scid_text
 
-
-def scid_text(scid):
-    """BLOCKxINDEXxOUTPUT."""
-    return "x".join(str(int.from_bytes(part, "big")) for part in (scid[:3], scid[3:6], scid[6:8]))
+PROGRAM = sys.argv[1] if len(sys.argv) > 1 else TOP / "lgm"
 
 
 def main():

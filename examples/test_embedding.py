@@ -20,6 +20,8 @@ from pathlib import Path
 
 HERE = Path(__file__).resolve().parent
 TOP = HERE.parent
+sys.path.insert(1, str(HERE / "python"))
+
 PROGRAM = sys.argv[1] if len(sys.argv) > 1 else TOP / "lgm"
 CHAIN = "c1" * 32
 CHANNELS = 2_000
@@ -598,7 +600,6 @@ def main():
         subprocess.run([HERE / "build-c", "--prefix", prefix, out], check=True)
         os.environ["LGM_LIBRARY"] = str(out / "liblgm.so")
         sys.dont_write_bytecode = True
-        sys.path.insert(0, str(HERE / "python"))
         test_exports(out)
         test_installed(prefix, out)
         test_c(out)

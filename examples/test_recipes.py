@@ -17,9 +17,7 @@ sys.dont_write_bytecode = True  # the repository gets no made files
 
 from test_embedding import CHAIN, CHANNELS, HERE, TOP, announced, is_wanted, made_script, output, stored
 
-sys.path.insert(0, str(HERE / "python"))
-
-import lgm
+import lgm  # of examples/python, where test_embedding.py leads to
 
 CHAIN = bytes.fromhex(CHAIN)
 DAY = 86_400

@@ -28,10 +28,9 @@ from pathlib import Path
 
 sys.dont_write_bytecode = True  # the repository gets no made files
 
-HERE = Path(__file__).resolve().parent
-TOP = HERE.parent
-sys.path[0] = str(HERE / "beside_electrum")  # in the place of this folder, in which a file is called electrum.py
-sys.path[1:1] = [str(TOP / "examples" / "electrum"), str(TOP / "examples")]
+TOP = Path(__file__).resolve().parent.parent
+# In the place of this folder, in which a file is called electrum.py.
+sys.path[:1] = [str(TOP / part) for part in ("tests/beside_electrum", "examples/electrum", "examples/tools")]
 
 import interpreter
 

@@ -6,7 +6,7 @@
 A page names things in `code spans`. Checked are
 
 - links to files of the repository, and to headings in them;
-- paths, as `examples/client.py` or `lgm_wire/specs`, also behind `python3`, and modules of specs, as `inner/ScidSet`;
+- paths, as `examples/tools/client.py` or `lgm_wire/specs`, also behind `python3`, and modules of specs, as `inner/ScidSet`;
 - calls, as `Map::absorb`, and definitions of a module, as `Script.text_for`;
 - clauses behind calls, as `decode`: `found`, `only`, each of which one of the calls before the colon has to have;
 - all other names, which have to occur somewhere outside the pages, unless they are those of the kit or of a tool;
@@ -23,10 +23,11 @@ from collections import defaultdict
 from pathlib import Path
 
 TOP = Path(__file__).resolve().parent.parent
-PAGES = sorted([*TOP.glob("*.md"), *TOP.glob("docs/*.md"), *TOP.glob("bench/*.md"), *TOP.glob("examples/*/*.md")])
+PAGES = sorted([*TOP.glob("*.md"), *TOP.glob("docs/*.md"), *TOP.glob("bench/*.md"), *TOP.glob("examples/*.md"),
+                *TOP.glob("examples/*/*.md")])
 SOURCES = ("crates/*/src/**/*.rt", "crates/*/specs/**/*.antt", "crates/*/proofs/**/*.antt", "include/*.h",
            "crates/*/must-fail/*.edit", "crates/*/args", "examples/**/*.py", "examples/c/*.c", "examples/rust/**/*.rs",
-           "examples/build-c", "bench/*.py", "tests/**/*.py", "*.py",
+           "examples/build-c", "bench/*.py", "gossip/*.py", "tests/**/*.py", "*.py",
            "crates.txt", "lgm", "test", ".ci/run")
 COMMANDS = ("rt", "lgm", "./lgm", "./test", "python3", "git", "cd", "awk", "bitcoin-cli")
 # Names that aren't this repository's: the kit's, clap's, the C library's, the protocol's, placeholders.

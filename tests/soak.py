@@ -17,11 +17,14 @@ import threading
 import time
 from pathlib import Path
 
-HERE = Path(__file__).resolve().parent
-sys.path.insert(0, str(HERE.parent / "bench"))
-import messages  # noqa: E402  (of bench/)
+TOP = Path(__file__).resolve().parent.parent
+sys.path.insert(1, str(TOP))
 
-PROGRAM = sys.argv[1] if len(sys.argv) > 1 else HERE.parent / "crates/lgm/out/lgm"
+from gossip.messages import (  # noqa: E402
+    CHAIN, HAS_MAXIMUM, ChannelAnnouncement, ChannelUpdate, channel_line, gossip_timestamp_filter, short_channel_id,
+    signed_line)
+
+PROGRAM = sys.argv[1] if len(sys.argv) > 1 else TOP / "crates/lgm/out/lgm"
 CHANNELS = 60
 LAST = 100  # a node that every channel before it can end at, as the greater one
 PAYMENTS = 200  # of which the mean time is taken
@@ -31,9 +34,6 @@ BANNED = 100  # bytes that a banned node takes in the two copies of the map, and
 SLOWER = 3.0  # times the first time of a payment, on a machine that does other things too
 SECRET = "22" * 32
 TERMS = (40, 1, 0, 0, 50_000_000)
-SIGNATURES = bytes(messages.ANNOUNCEMENT_SIGNATURES)
-SIGNATURE = bytes(messages.SIGNATURE)
-KEYS = (b"\2" + b"\1" * 32, b"\2" + b"\2" * 32)
 
 
 def node(number):
@@ -43,16 +43,15 @@ def node(number):
 
 def channel(block, first, second):
     """The line that announces the channel of a block between two nodes."""
-    scid = messages.short_channel_id(block, 1, 0)
-    message = messages.channel_announcement(SIGNATURES, scid, (node(first), node(second)), KEYS)
-    return f"m {message.hex()} all 100000\n"
+    announcement = ChannelAnnouncement(CHAIN, short_channel_id(block, 1, 0), (node(first), node(second)))
+    return channel_line(announcement.encode(), 100_000)
 
 
 def update(block, first, second, timestamp):
     """The line with the terms from the first node to the second one."""
-    scid = messages.short_channel_id(block, 1, 0)
-    message = messages.channel_update(SIGNATURE, scid, timestamp, 0 if first < second else 1, TERMS)
-    return f"m {message.hex()} {node(first).hex()} -\n"
+    scid, direction = short_channel_id(block, 1, 0), int(first > second)
+    message = ChannelUpdate(CHAIN, scid, timestamp, HAS_MAXIMUM, direction, *TERMS).encode()
+    return signed_line(message, node(first))
 
 
 def close(block):
@@ -64,7 +63,7 @@ class Process:
     """A running process, whose answers are read by a thread and counted by their last word."""
 
     def __init__(self):
-        self.process = subprocess.Popen([PROGRAM, "run", "--chain", messages.CHAIN.hex()], stdin=subprocess.PIPE,
+        self.process = subprocess.Popen([PROGRAM, "run", "--chain", CHAIN.hex()], stdin=subprocess.PIPE,
                                         stdout=subprocess.PIPE, bufsize=1 << 20)
         self.ended, self.words = threading.Event(), {}
         threading.Thread(target=self.read, daemon=True).start()
@@ -142,7 +141,7 @@ def uncommitted(step):
 
 def filters(step):
     """Ten peers set another filter each."""
-    return [f"filter {peer} {messages.gossip_timestamp_filter(step, 1 << 30).hex()}\n" for peer in range(10)]
+    return [f"filter {peer} {gossip_timestamp_filter(step, 1 << 30).hex()}\n" for peer in range(10)]
 
 
 def soaked(process, name, lines_of, steps, banned):

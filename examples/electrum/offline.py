@@ -10,19 +10,17 @@ Nothing is connected: the event loop, which the database wants for its tables, r
 from __future__ import annotations
 
 import asyncio
-import sys
 import time
-from pathlib import Path
 from typing import NamedTuple
-
-sys.path.append(str(Path(__file__).resolve().parent.parent.parent / "bench"))
 
 from electrum import constants, lnmsg, util
 from electrum.lnutil import LnFeatures
 from electrum.simple_config import SimpleConfig
 from electrum.sql_db import sql
 
-from network import Network as MadeNetwork
+import top  # leads to gossip
+
+from gossip.networks import Network
 
 FEATURES = (LnFeatures.VAR_ONION_OPT | LnFeatures.PAYMENT_SECRET_OPT).to_bytes(2, "big")
 HOUR, DAY = 3_600, 86_400  # seconds
@@ -114,7 +112,7 @@ def decoded(message):
 def made_network(channels, seed):
     """Messages of a network as bench/README.md describes them, on the wallet's chain, with placeholders for signatures.
     Each node has an announcement with the features that a payment needs."""
-    made = MadeNetwork(channels, seed)
+    made = Network(channels, seed)
     now, chain = int(time.time()) - HOUR, constants.net.rev_genesis_bytes()
     found = Messages([], [], [])
     for channel in made.channels:

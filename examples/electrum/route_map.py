@@ -12,11 +12,9 @@ never enters the map: so peers see none of it, and payments need no lock of thei
 
 from __future__ import annotations
 
-import sys
 import threading
-from pathlib import Path
 
-sys.path.append(str(Path(__file__).resolve().parent.parent / "python"))
+import top  # leads to lgm
 
 import lgm
 

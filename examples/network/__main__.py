@@ -29,8 +29,10 @@ import lnd
 import plots
 import store
 import summary
-from messages import MAINNET, Fault
+import top  # leads to gossip
 from progress import Progress, clear, say
+
+from gossip.messages import MAINNET, Fault
 
 HEAD = 64  # bytes that tell what a file is
 SQLITE = b"SQLite format 3\0"

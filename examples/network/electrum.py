@@ -12,8 +12,12 @@ import sqlite3
 from collections import defaultdict
 from pathlib import Path
 
-from messages import CHANNEL, MOST_SATOSHI, NODE, UPDATE, Fault, channel_line, parsed, scid_text, signed_line
+import top  # leads to gossip
 from progress import Progress, say
+
+from gossip.messages import (
+    CHANNEL_ANNOUNCEMENT, CHANNEL_UPDATE, MOST_SATOSHI, NODE_ANNOUNCEMENT, Fault, channel_line, decode, scid_text,
+    signed_line)
 
 NAME = "a gossip_db of Electrum"
 ABOUT = ("From Electrum's gossip_db, which has no capacities: each channel has the least that covers the "
@@ -27,7 +31,7 @@ def rows(database, table, key, kind):
         if not isinstance(name, bytes) or not isinstance(message, bytes):
             raise Fault(f"{where}: the key or the message isn't of bytes")
         try:
-            found = parsed(message, kind)
+            found = decode(message, kind)
         except Fault as fault:
             raise Fault(f"{where}: {fault}") from fault
         yield name, message, found
@@ -35,14 +39,14 @@ def rows(database, table, key, kind):
 
 def capacity(updates):
     """The least satoshi that cover the maxima of these updates."""
-    most = max((update.maximum for _, update in updates), default=0)
+    most = max((update.htlc_maximum_msat for _, update in updates), default=0)
     return min(-(-most // 1000), MOST_SATOSHI)
 
 
 def policies(database):
     """The messages and updates of each channel, by its id; and how many are not to be forwarded."""
     found, private = defaultdict(list), 0
-    for _, message, update in rows(database, "policy", "key", UPDATE):
+    for _, message, update in rows(database, "policy", "key", CHANNEL_UPDATE):
         if update.is_private:
             private += 1
         else:
@@ -55,7 +59,8 @@ def database_lines(database):
     updates, private = policies(database)
     count = database.execute("SELECT count(*) FROM channel_info").fetchone()[0]
     points = set()
-    for scid, message, channel in Progress(count).over(rows(database, "channel_info", "short_channel_id", CHANNEL)):
+    channels = rows(database, "channel_info", "short_channel_id", CHANNEL_ANNOUNCEMENT)
+    for scid, message, channel in Progress(count).over(channels):
         if channel.scid != scid:
             raise Fault(f"channel_info {scid.hex()}: the message is of the channel {scid_text(channel.scid)}")
         points.update(channel.nodes)
@@ -64,7 +69,7 @@ def database_lines(database):
         for update_message, update in own:
             yield signed_line(update_message, channel.nodes[update.direction])
     lonely = 0
-    for point, message, node in rows(database, "node_info", "node_id", NODE):
+    for point, message, node in rows(database, "node_info", "node_id", NODE_ANNOUNCEMENT):
         if node.point != point:
             raise Fault(f"node_info {point.hex()}: the message is of the node {node.point.hex()}")
         if point in points:

@@ -15,16 +15,17 @@ the channel or the node.
 import json
 import re
 
-from messages import (MOST_SATOSHI, Channel, Fault, Node, Update, channel_line, made_channel, made_node, made_update,
-                      scid_text, signed_line)
+import top  # leads to gossip
 from progress import Progress, say
+
+from gossip.messages import (
+    DISABLED, HAS_MAXIMUM, MOST_SATOSHI, ChannelAnnouncement, ChannelUpdate, Fault, NodeAnnouncement, channel_line,
+    features, scid_text, signed_line)
 
 NAME = "an answer of LND's describegraph"
 ABOUT = ("From LND's describegraph, which has no messages: these are made, with placeholders for signatures and "
          "bitcoin keys, and must never be sent to peers.")
 DIGITS = re.compile("[0-9]{1,20}")
-HAS_MAXIMUM = 1  # message_flags
-DISABLED = 2  # channel_flags
 
 
 def number(fields, name, below):
@@ -52,14 +53,12 @@ def shown(fields, name):
     return repr(fields[name])[:80] if name in fields else "missing"
 
 
-def features(fields):
+def features_of(fields):
     """The bytes of features that have the bits of a node, whose numbers are the keys of an object."""
     found = fields.get("features") or {}
     if not isinstance(found, dict):
         raise Fault(f"features is {shown(fields, 'features')}, not an object")
-    bits = [number({"a feature bit": bit}, "a feature bit", 2**16) for bit in found]
-    whole = sum(1 << bit for bit in set(bits))
-    return whole.to_bytes((whole.bit_length() + 7) // 8, "big")
+    return features(*(number({"a feature bit": bit}, "a feature bit", 2**16) for bit in found))
 
 
 def channel_of(edge, chain):
@@ -71,7 +70,7 @@ def channel_of(edge, chain):
     capacity = number(edge, "capacity", MOST_SATOSHI + 1)
     if not capacity:
         raise Fault("capacity is 0")
-    return Channel(chain, scid, nodes, b""), capacity
+    return ChannelAnnouncement(chain, scid, nodes), capacity
 
 
 def update_of(policy, channel, direction):
@@ -81,15 +80,15 @@ def update_of(policy, channel, direction):
     if not isinstance(policy.get("disabled"), bool):
         raise Fault(f"disabled is {shown(policy, 'disabled')}, not true or false")
     flags = direction | (DISABLED if policy["disabled"] else 0)
-    return Update(channel.chain, channel.scid, number(policy, "last_update", 2**32), HAS_MAXIMUM, flags,
-                  number(policy, "time_lock_delta", 2**16), number(policy, "min_htlc", 2**64),
-                  number(policy, "fee_base_msat", 2**32), number(policy, "fee_rate_milli_msat", 2**32),
-                  number(policy, "max_htlc_msat", 2**64))
+    return ChannelUpdate(channel.chain, channel.scid, number(policy, "last_update", 2**32), HAS_MAXIMUM, flags,
+                         number(policy, "time_lock_delta", 2**16), number(policy, "min_htlc", 2**64),
+                         number(policy, "fee_base_msat", 2**32), number(policy, "fee_rate_milli_msat", 2**32),
+                         number(policy, "max_htlc_msat", 2**64))
 
 
 def edge_lines(edge, channel, capacity):
     """The lines of a channel and of its policies; one that LND doesn't know is null."""
-    yield channel_line(made_channel(channel), capacity)
+    yield channel_line(channel.encode(), capacity)
     for direction, name in enumerate(("node1_policy", "node2_policy")):
         if edge.get(name) is None:
             continue
@@ -97,7 +96,7 @@ def edge_lines(edge, channel, capacity):
             update = update_of(edge[name], channel, direction)
         except Fault as fault:
             raise Fault(f"{name}: {fault}") from fault
-        yield signed_line(made_update(update), channel.nodes[direction])
+        yield signed_line(update.encode(), channel.nodes[direction])
 
 
 def node_of(fields):
@@ -106,7 +105,7 @@ def node_of(fields):
     alias = fields.get("alias", "")
     if not isinstance(alias, str):
         raise Fault(f"alias is {shown(fields, 'alias')}, not a text")
-    return Node(features(fields), timestamp, own), alias.encode("utf-8", "replace")
+    return NodeAnnouncement(features_of(fields), timestamp, own), alias.encode("utf-8", "replace")
 
 
 def all_of(graph, name, key):
@@ -145,7 +144,7 @@ def graph_lines(graph, chain):
         seen.add(node.point)
         lonely += node.point not in points
         if node.timestamp and node.point in points:
-            yield signed_line(made_node(node, alias), node.point)
+            yield signed_line(node.encode(alias=alias), node.point)
     if lonely:
         say(f"left out: {lonely} nodes without a channel")
 

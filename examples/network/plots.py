@@ -8,7 +8,9 @@ doesn't. The same network gives the same page, where the version of matplotlib i
 
 import math
 
-from messages import Fault
+import top  # leads to gossip
+
+from gossip.messages import Fault
 
 MISSING = "plots need matplotlib, which this Python doesn't have (on Debian it is python3-matplotlib)"
 SIZE = 11, 8  # inches
@@ -83,8 +85,8 @@ def draw(path, network, title):
     page, axes = pyplot.subplots(2, 2, figsize=SIZE)
     draw_capacities(axes[0][0], [capacity for _, capacity in network.channels.values()])
     draw_degrees(axes[0][1], list(network.degrees.values()))
-    draw_fees(axes[1][0], "Base fee", "msat", [update.base for update in usable])
-    draw_fees(axes[1][1], "Rate", "millionths of the amount", [update.millionths for update in usable])
+    draw_fees(axes[1][0], "Base fee", "msat", [update.fee_base_msat for update in usable])
+    draw_fees(axes[1][1], "Rate", "millionths of the amount", [update.fee_proportional_millionths for update in usable])
     page.suptitle(f"{title}{len(network.channels):,} channels, {len(network.degrees):,} nodes, "
                   f"{len(usable):,} of {2 * len(network.channels):,} directions usable")
     page.tight_layout(rect=(0, 0, 1, 0.98))

@@ -11,8 +11,11 @@ was replaced and a version that isn't known raise Fault.
 import os
 import struct
 
-from messages import CHANNEL, NODE, UPDATE, Fault, channel_line, kind_of, parsed, scid_text, signed_line
+import top  # leads to gossip
 from progress import Progress, clear
+
+from gossip.messages import (
+    CHANNEL_ANNOUNCEMENT, CHANNEL_UPDATE, NODE_ANNOUNCEMENT, Fault, channel_line, decode, kind_of, scid_text, signed_line)
 
 HEADER = struct.Struct(">HHII")  # flags, length of the message, CRC, timestamp
 DELETED, ZOMBIE, DYING = 0x8000, 0x1000, 0x0800  # flags of a record
@@ -81,18 +84,18 @@ class Script:
             raise Fault("the store was replaced; read the new one")
         if flags & (DELETED | ZOMBIE | DYING):
             return
-        if kind == CHANNEL:
-            self._waiting = parsed(message), message
+        if kind == CHANNEL_ANNOUNCEMENT:
+            self._waiting = decode(message), message
         elif kind == AMOUNT and waiting:
             channel, announcement = waiting
             self._ends[channel.scid] = channel.nodes
             yield channel_line(announcement, int.from_bytes(message[2:10], "big"))
-        elif kind == UPDATE:
-            update = parsed(message)
+        elif kind == CHANNEL_UPDATE:
+            update = decode(message)
             if update.scid in self._ends:
                 yield signed_line(message, self._ends[update.scid][update.direction])
-        elif kind == NODE:
-            self._nodes.append((parsed(message).point, message))
+        elif kind == NODE_ANNOUNCEMENT:
+            self._nodes.append((decode(message).point, message))
         elif kind in (TAKEN_OUT, IS_DYING) and self._ends.pop(message[2:10], None):
             yield f"close {scid_text(message[2:10])}\n"
 

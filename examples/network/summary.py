@@ -17,7 +17,9 @@ usable directions lead to such nodes, and which bits they are.
 
 from collections import Counter
 
-from messages import Channel, Fault, Node, feature_bits, parsed, scid_text
+import top  # leads to gossip
+
+from gossip.messages import ChannelAnnouncement, Fault, NodeAnnouncement, decode, even_bits, features, scid_text
 
 REASONS = ("no update", "disabled", "even feature bit of the channel", "maximum above the capacity")
 QUANTILES = (("least", 0), ("10 %", 10), ("25 %", 25), ("median", 50), ("75 %", 75), ("90 %", 90), ("most", 100))
@@ -28,7 +30,7 @@ class Network:
     """The channels, updates and nodes of a script's items."""
 
     def __init__(self):
-        self.channels = {}  # a Channel and its capacity in satoshi, by id as text
+        self.channels = {}  # an announcement and the capacity in satoshi, by id as text
         self.updates = {}  # by id as text and direction
         self.nodes = {}  # announcements, by point
         self.degrees = Counter()  # the number of channels of each point
@@ -41,21 +43,21 @@ class Network:
             self.not_taken += not self._close(fields[0])
         elif word == "m":
             try:
-                taken = len(fields) == 3 and self._offer(parsed(bytes.fromhex(fields[0])), *fields[1:])
+                taken = len(fields) == 3 and self._offer(decode(bytes.fromhex(fields[0])), *fields[1:])
             except (Fault, ValueError):
                 taken = False
             self.not_taken += not taken
 
     def _offer(self, message, signed, funding):
         """Whether an item is taken."""
-        if isinstance(message, Channel):
+        if isinstance(message, ChannelAnnouncement):
             scid = scid_text(message.scid)
             if signed != "all" or not funding.isdigit() or scid in self.channels:
                 return False
             self.channels[scid] = message, int(funding)
             self.degrees.update(message.nodes)
             return True
-        if isinstance(message, Node):
+        if isinstance(message, NodeAnnouncement):
             is_right = self.degrees[message.point] > 0 and signed.lower() == message.point.hex()
             return is_right and newer(self.nodes, message.point, message)
         scid = scid_text(message.scid)
@@ -95,11 +97,6 @@ def newer(kept, key, message):
     return True
 
 
-def even_bits(features):
-    """The even bits among features, ascending."""
-    return [bit for bit in feature_bits(features) if bit % 2 == 0]
-
-
 def reason(channel, capacity, update):
     """The first reason why a direction can't be used; empty if it can."""
     if update is None:
@@ -108,7 +105,7 @@ def reason(channel, capacity, update):
         return REASONS[1]
     if even_bits(channel.features):
         return REASONS[2]
-    return REASONS[3] if update.maximum > 1000 * capacity else ""
+    return REASONS[3] if update.htlc_maximum_msat > 1000 * capacity else ""
 
 
 def quantiles(values):
@@ -151,21 +148,15 @@ def table(network):
     if network.not_taken:
         yield count_line("items not taken", network.not_taken)
     yield ""
-    yield from quantile_table((("base fee, msat", [update.base for update, _ in usable]),
-                               ("rate, millionths", [update.millionths for update, _ in usable]),
+    yield from quantile_table((("base fee, msat", [update.fee_base_msat for update, _ in usable]),
+                               ("rate, millionths", [update.fee_proportional_millionths for update, _ in usable]),
                                ("capacity, satoshi", capacities)))
     bits = Counter(bit for own in evens.values() for bit in own)
     if bits:
         yield ""
         yield "even feature bits of nodes, with the number of nodes: " + ", ".join(
             f"{bit} ({count:,})" for bit, count in sorted(bits.items()))
-        yield f"all of them are understood with --known {known(bits)}"
-
-
-def known(bits):
-    """The least feature bits for `--known` that have these."""
-    whole = sum(1 << bit for bit in bits)
-    return whole.to_bytes((whole.bit_length() + 7) // 8, "big").hex()
+        yield f"all of them are understood with --known {features(*bits).hex()}"
 
 
 def read(lines):

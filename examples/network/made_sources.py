@@ -1,50 +1,24 @@
-"""What the tests of examples/network convert: three nodes and two channels, as each kind of source keeps them.
+"""What test_network.py converts: the network of `gossip.three_nodes`, as each kind of source keeps it.
 
     store(funded(FIRST, A, B), updated(FIRST))             # bytes of Core Lightning's gossip_store, by records
     database([(FIRST, channel(FIRST, A, B))], [], [])      # of Electrum's gossip_db, by rows of its three tables
     spelled(graph())                                       # of the answer of LND's describegraph
-
-The messages are those of bench/messages.py, on its chain.
 """
 
 import json
 import sqlite3
 import struct
-import sys
 import tempfile
 from pathlib import Path
 
-HERE = Path(__file__).resolve().parent
-sys.path.insert(0, str(HERE.parent / "bench"))
+import top  # leads to gossip
 
-import messages
+from gossip.three_nodes import A, B, C, TERMS_OF_A, TERMS_OF_B, channel, node, update
 
 TIMESTAMP = 1_700_000_000
-A, B, C = (b"\x02" + bytes([letter]) * 32 for letter in (10, 11, 12))
-NOBODY = b"\x03" + bytes(32)
-FIRST, SECOND = messages.short_channel_id(700_000, 1, 1), messages.short_channel_id(700_001, 2, 0)
-# Delta, minimum, base fee, proportional fee in ppm, maximum, as in an update.
-TERMS_OF_A = (80, 1, 7_000, 9_000, 50_000_000)
-TERMS_OF_B = (40, 1, 1_000, 500, 60_000_500)
-
 DELETED, ZOMBIE, DYING = 0x8000, 0x1000, 0x0800
 AMOUNT, TAKEN_OUT, REPLACED, IS_DYING = 4101, 4103, 4105, 4106
 VERSION = b"\x0d"
-
-
-def channel(scid, one, other):
-    """A channel's announcement."""
-    return messages.channel_announcement(bytes(256), scid, (one, other), (A, B))
-
-
-def update(scid, terms=TERMS_OF_A, flags=0):
-    """An update, by the channel's first node unless the flags say otherwise."""
-    return messages.channel_update(bytes(64), scid, 5, flags, terms)
-
-
-def node(point, features=b""):
-    """A node's announcement."""
-    return messages.node_announcement(bytes(64), features, 5, point, bytes(3), b"", b"")
 
 
 def crc32c(start, data):

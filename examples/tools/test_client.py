@@ -1,7 +1,7 @@
 #!/usr/bin/env python3
 """Tests client.py beside a process of `lgm run`.
 
-    python3 examples/test_client.py [PROGRAM]
+    python3 examples/tools/test_client.py [PROGRAM]
 """
 
 import contextlib
@@ -15,20 +15,20 @@ sys.dont_write_bytecode = True  # the repository gets no made files
 
 from client import Client, Ended, Late
 
-HERE = Path(__file__).resolve().parent
-PROGRAM = sys.argv[1] if len(sys.argv) > 1 else HERE.parent / "lgm"
+EXAMPLES = Path(__file__).resolve().parent.parent
+PROGRAM = sys.argv[1] if len(sys.argv) > 1 else EXAMPLES.parent / "lgm"
 CHAIN = "c1" * 32
 
 
 def script(name):
     """The lines of an example that ask something."""
-    return [line for line in (HERE / name).read_text().splitlines() if line and not line.startswith("#")]
+    return [line for line in (EXAMPLES / name).read_text().splitlines() if line and not line.startswith("#")]
 
 
 def answers_have_ends():
     """Replies, backlogs and news of any length come with the line that they belong to."""
     lines = script("queries.txt")
-    stored = [line.split(" ", 1)[1] for line in (HERE / "queries.out").read_text().splitlines()]
+    stored = [line.split(" ", 1)[1] for line in (EXAMPLES / "queries.out").read_text().splitlines()]
     with Client(CHAIN, PROGRAM) as lgm:
         together = lgm.ask(lines)
     with Client(CHAIN, PROGRAM) as lgm:

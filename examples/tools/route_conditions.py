@@ -9,9 +9,12 @@ from __future__ import annotations
 
 from collections import defaultdict, deque
 
+import top  # leads to gossip
 from history import BANNED, CLOSED
-from messages import (MOST_SATOSHI, Channel, Fault, Update, channel_line, feature_bits, made_channel, made_node,
-                      made_update, parsed, signed_line)
+
+from gossip.messages import (
+    HAS_MAXIMUM, MOST_SATOSHI, ChannelAnnouncement, ChannelUpdate, Fault, channel_line, decode, even_bits, feature_bits,
+    features, signed_line)
 
 # Each condition, and what it means that it decides.
 CONDITIONS = {
@@ -30,11 +33,6 @@ DEAR = 100_000, 10_000  # a base fee in msat, and ppm
 MENDED = ("funding", "signature", "private", "unknown-channel")
 
 
-def even_bits(features):
-    """The even bits among features."""
-    return [bit for bit in feature_bits(features) if bit % 2 == 0]
-
-
 def is_known(bit, known):
     """Whether a feature bit is among those that are known: a number, or None for all."""
     return known is None or bool(known >> bit & 1)
@@ -43,7 +41,7 @@ def is_known(bit, known):
 def understood(message):
     """What a refused item's message says, or None."""
     try:
-        return parsed(bytes.fromhex(message))
+        return decode(bytes.fromhex(message))
     except (Fault, ValueError):
         return None
 
@@ -78,16 +76,14 @@ class Made:
         for _, line, word in history.refused:
             kind, message, _, funding, *_ = (*line.split(" "), "", "", "")
             found = understood(message) if kind == "m" and word in words else None
-            if isinstance(found, Channel) and found.scid not in self.channels:
+            if isinstance(found, ChannelAnnouncement) and found.scid not in self.channels:
                 self.channels[found.scid] = found, int(funding) if funding.isdigit() else MOST_SATOSHI
-            elif isinstance(found, Update) and found.scid in self.channels:
+            elif isinstance(found, ChannelUpdate) and found.scid in self.channels:
                 self.updates.setdefault((found.scid, found.direction), found)
 
     def _channel(self, channel, capacity):
         if "features of channels" in self._without:
-            bits = [bit for bit in feature_bits(channel.features) if bit % 2]
-            features = sum(1 << bit for bit in bits)
-            channel = channel._replace(features=features.to_bytes((features.bit_length() + 7) // 8, "big"))
+            channel = channel._replace(features=features(*(bit for bit in feature_bits(channel.features) if bit % 2)))
         return channel, MOST_SATOSHI if "capacities" in self._without else min(capacity, MOST_SATOSHI)
 
     def _complete_updates(self):
@@ -95,27 +91,28 @@ class Made:
         if "updates" in self._without:
             for scid, (channel, capacity) in self.channels.items():
                 for direction in (0, 1):
-                    made = Update(channel.chain, scid, 1, 1, direction, 0, 0, *self._fees, MSAT * capacity)
+                    made = ChannelUpdate(
+                        channel.chain, scid, 1, HAS_MAXIMUM, direction, 0, 0, *self._fees, MSAT * capacity)
                     self.updates.setdefault((scid, direction), made)
 
     def _update(self, update):
         most = MSAT * self.channels[update.scid][1]
-        if "maxima" in self._without and update.maximum <= most:
-            update = update._replace(maximum=most)
+        if "maxima" in self._without and update.htlc_maximum_msat <= most:
+            update = update._replace(htlc_maximum_msat=most)
         if "minima" in self._without:
-            update = update._replace(minimum=0)
+            update = update._replace(htlc_minimum_msat=0)
         if "disabled directions" in self._without:
             update = update._replace(channel_flags=update.direction)
-        return update._replace(message_flags=1)
+        return update._replace(message_flags=HAS_MAXIMUM)
 
     def lines(self):
         """The map as a script."""
         for channel, capacity in self.channels.values():
-            yield channel_line(made_channel(channel), capacity).rstrip()
+            yield channel_line(channel.encode(), capacity).rstrip()
         for (scid, direction), update in self.updates.items():
-            yield signed_line(made_update(update), self.channels[scid][0].nodes[direction]).rstrip()
+            yield signed_line(update.encode(), self.channels[scid][0].nodes[direction]).rstrip()
         for point, node in self.nodes.items():
-            yield signed_line(made_node(node, b""), point).rstrip()
+            yield signed_line(node.encode(), point).rstrip()
         yield "commit"
 
     def carried(self, payer, scids, msat):
@@ -126,7 +123,7 @@ class Made:
             starts.append(nodes[1 - nodes.index(starts[-1])])
         for scid, start in list(zip(scids, starts))[:0:-1]:
             update = self.updates[scid, self.channels[scid][0].nodes.index(start)]
-            amounts.append(amounts[-1] + update.base + amounts[-1] * update.millionths // 1_000_000)
+            amounts.append(amounts[-1] + update.fee_base_msat + amounts[-1] * update.fee_proportional_millionths // 1_000_000)
         return list(zip(starts, reversed(amounts)))
 
     def shortest_way(self, payer, payee, msat, known):
@@ -158,12 +155,12 @@ def faults(channel, capacity, update, msat, carried, nodes, known):
         said.append("disabled")
     if even_bits(channel.features):
         said.append(f"even feature bits {even_bits(channel.features)}")
-    if update.maximum > MSAT * capacity:
-        said.append(f"htlc_maximum_msat {update.maximum:,} is above the capacity of {capacity:,} sat")
-    if update.maximum < carried:
-        said.append(f"htlc_maximum_msat {update.maximum:,} is below {carried:,} msat")
-    if update.minimum > msat:
-        said.append(f"htlc_minimum_msat {update.minimum:,} is above {msat:,} msat")
+    if update.htlc_maximum_msat > MSAT * capacity:
+        said.append(f"htlc_maximum_msat {update.htlc_maximum_msat:,} is above the capacity of {capacity:,} sat")
+    if update.htlc_maximum_msat < carried:
+        said.append(f"htlc_maximum_msat {update.htlc_maximum_msat:,} is below {carried:,} msat")
+    if update.htlc_minimum_msat > msat:
+        said.append(f"htlc_minimum_msat {update.htlc_minimum_msat:,} is above {msat:,} msat")
     node = nodes.get(channel.nodes[1 - update.direction])
     missing = [bit for bit in even_bits(node.features) if not is_known(bit, known)] if node else []
     if missing:

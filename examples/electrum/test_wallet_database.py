@@ -1,10 +1,10 @@
 #!/usr/bin/env python3
 """Tests the converter of Electrum's `gossip_db` on a database that the wallet's own code writes.
 
-    python3 examples/test_wallet_database.py [PROGRAM]
+    python3 examples/electrum/test_wallet_database.py [PROGRAM]
 
-test_network.py does so on one that is made without it. This continues in the system's Python if that has Electrum's
-package (python3-electrum). Without the package it is left out, with status 77.
+examples/network/test_network.py does so on one that is made without it. This continues in the system's Python if that
+has Electrum's package (python3-electrum). Without the package it is left out, with status 77.
 """
 
 import subprocess
@@ -13,9 +13,6 @@ import tempfile
 from pathlib import Path
 
 sys.dont_write_bytecode = True  # the repository gets no made files
-
-HERE = Path(__file__).resolve().parent
-sys.path[0] = str(HERE / "electrum")
 
 import interpreter
 
@@ -26,8 +23,9 @@ if not interpreter.goes_on_with_electrum():
 from electrum import channel_db, constants
 
 from offline import Offline, decoded, made_network
+from top import TOP
 
-PROGRAM = sys.argv[1] if len(sys.argv) > 1 else HERE.parent / "lgm"
+PROGRAM = sys.argv[1] if len(sys.argv) > 1 else TOP / "lgm"
 CHANNELS = 200
 
 
@@ -55,7 +53,7 @@ def main():
     """Converts the file, and lets `lgm` take the script."""
     messages = made_network(CHANNELS, 1)
     with tempfile.TemporaryDirectory() as folder:
-        words = [sys.executable, "-B", HERE / "network", written(folder, messages)]
+        words = [sys.executable, "-B", TOP / "examples" / "network", written(folder, messages)]
         done = subprocess.run(words, capture_output=True, text=True, check=True)
     said = done.stderr.splitlines()
     assert len(said) == 1 and said[0].endswith(" is a gossip_db of Electrum"), said

@@ -1,7 +1,7 @@
 #!/usr/bin/env python3
 """Tests why_route.py on each of its causes, over small networks that are made for it.
 
-    python3 examples/test_why_route.py [PROGRAM]
+    python3 examples/tools/test_why_route.py [PROGRAM]
 """
 
 import subprocess
@@ -12,29 +12,32 @@ from pathlib import Path
 
 sys.dont_write_bytecode = True  # the repository gets no made files
 
-from made_sources import A, B, C, FIRST, HERE, NOBODY, SECOND, TERMS_OF_A, TERMS_OF_B, channel, messages, node, update
+from top import TOP
 
-PROGRAM = sys.argv[1] if len(sys.argv) > 1 else HERE.parent / "lgm"
+from gossip.messages import channel_line, short_channel_id, signed_line
+from gossip.three_nodes import A, B, C, FIRST, NOBODY, SECOND, TERMS_OF_A, TERMS_OF_B, channel, node, update
+
+PROGRAM = sys.argv[1] if len(sys.argv) > 1 else TOP / "lgm"
+TOOL = TOP / "examples" / "tools" / "why_route.py"
 D, E = b"\x02" + bytes([13]) * 32, b"\x02" + bytes([14]) * 32
-THIRD = messages.short_channel_id(700_002, 3, 0)
+THIRD = short_channel_id(700_002, 3, 0)
 SECRET = "11" * 32
 MSAT = 1_000_000
 
 
 def announced(scid, one, other, funding=100_000, features=b""):
     """The line of a channel's announcement."""
-    message = channel(scid, one, other)
-    return f"m {(message[:258] + messages.with_length(features) + message[260:]).hex()} all {funding}"
+    return channel_line(channel(scid, one, other, features), funding).rstrip()
 
 
 def updated(scid, start, terms, flags=0):
     """The line of an update."""
-    return f"m {update(scid, terms, flags).hex()} {start.hex()} -"
+    return signed_line(update(scid, terms, flags), start).rstrip()
 
 
 def noted(point, features):
     """The line of a node's announcement."""
-    return f"m {node(point, features).hex()} {point.hex()} -"
+    return signed_line(node(point, features), point).rstrip()
 
 
 def terms_of_b(**changed):
@@ -52,7 +55,7 @@ def line_of_nodes(count):
     nodes = [b"\x02" + bytes([number]) * 32 for number in range(1, count + 1)]
     lines = []
     for number, (one, other) in enumerate(zip(nodes, nodes[1:])):
-        scid = messages.short_channel_id(700_000 + number, 1, 0)
+        scid = short_channel_id(700_000 + number, 1, 0)
         lines += [announced(scid, one, other), updated(scid, one, (1, 0, 0, 0, 100_000_000))]
     return [*lines, "commit"], nodes[0], nodes[-1]
 
@@ -63,7 +66,7 @@ def explained(lines, payer=A, payee=C, msat=MSAT, *options, expiry=800_000):
     with tempfile.TemporaryDirectory() as folder:
         path = Path(folder) / "network.txt"
         path.write_text("".join(f"{line}\n" for line in lines))
-        words = [sys.executable, "-B", HERE / "why_route.py", "--program", PROGRAM, *options, path, payment]
+        words = [sys.executable, "-B", TOOL, "--program", PROGRAM, *options, path, payment]
         done = subprocess.run(words, capture_output=True, text=True, check=False)
     assert done.returncode != 1, done.stderr
     return done.returncode, done.stdout.splitlines()

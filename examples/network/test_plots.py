@@ -2,7 +2,7 @@
 """Tests the plots of examples/network: what they show, on a small network by hand and a made one, and what is said where
 matplotlib is missing.
 
-    python3 examples/test_plots.py
+    python3 examples/network/test_plots.py
 
 The pages are drawn by the system's Python where only that one has matplotlib. Without matplotlib they are left out.
 """
@@ -16,10 +16,8 @@ from xml.etree import ElementTree
 
 sys.dont_write_bytecode = True  # the repository gets no made files
 
-HERE = Path(__file__).resolve().parent
-sys.path.append(str(HERE / "network"))
-
 import plots
+from top import TOP
 
 SYSTEMS = "/usr/bin/python3"
 TITLES = {"Capacity", "Channels of a node", "Base fee", "Rate"}
@@ -37,14 +35,14 @@ def summed_up(python, script, *options, **environment):
     with tempfile.TemporaryDirectory() as folder:
         path = Path(folder) / "script"
         path.write_text(script)
-        words = [python, "-B", HERE / "network", "--summary", *options, path]
+        words = [python, "-B", TOP / "examples" / "network", "--summary", *options, path]
         done = subprocess.run(words, capture_output=True, text=True, check=False, env={**os.environ, **environment})
     return done.returncode, done.stdout, [line for line in done.stderr.splitlines() if line.startswith("network: ")]
 
 
 def made_script(channels):
     """A synthetic network."""
-    words = [sys.executable, HERE.parent / "bench" / "make_script.py", "--channels", str(channels)]
+    words = [sys.executable, TOP / "bench" / "make_script.py", "--channels", str(channels)]
     return subprocess.run(words, capture_output=True, text=True, check=True).stdout
 
 

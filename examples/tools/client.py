@@ -16,7 +16,7 @@ and so does `lgm`. So a thread of the client reads all the time, and lines are w
 
 Run as a program it announces the channels of examples/payments.txt, commits, asks for a route, and prints the answers:
 
-    python3 examples/client.py [PROGRAM]
+    python3 examples/tools/client.py [PROGRAM]
 """
 
 import os
@@ -29,7 +29,7 @@ import time
 from collections import deque
 from pathlib import Path
 
-HERE = Path(__file__).resolve().parent
+EXAMPLES = Path(__file__).resolve().parent.parent
 LINES = 10_000_000  # that a process answers
 END = "end"  # not in the grammar, so it is answered `bad` and has no effect
 NEVER = float("inf")
@@ -47,7 +47,7 @@ class Late(Ended):
 class Client:
     """A process of `lgm run`. One thread at a time may use it."""
 
-    def __init__(self, chain, program=HERE.parent / "lgm", options=(), start_seconds=3600, answer_seconds=600):
+    def __init__(self, chain, program=EXAMPLES.parent / "lgm", options=(), start_seconds=3600, answer_seconds=600):
         """Starts the process, and returns when it answers. `chain` has 64 hexadecimal digits; `options` are more
         arguments: `--workers`, `1`. The limits are those of the start, and of each `ask`. Raises Ended."""
         self._process = subprocess.Popen(
@@ -175,7 +175,7 @@ class Client:
 
 def main():
     """Announces, commits, asks for a route, and prints the answers."""
-    script = [line.strip() for line in open(HERE / "payments.txt") if line.strip() and not line.startswith("#")]
+    script = [line.strip() for line in open(EXAMPLES / "payments.txt") if line.strip() and not line.startswith("#")]
     gossip = [line for line in script if line.startswith("m ")][:6]
     payment = next(line for line in script if line.startswith("route "))
     with Client("c1" * 32, *sys.argv[1:2]) as lgm:

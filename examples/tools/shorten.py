@@ -1,7 +1,7 @@
 #!/usr/bin/env python3
 """Shortens the lines that are kept for a restart: writes the least list of them that gives the same map, bans included.
 
-    python3 examples/shorten.py [--chain HEX] [--program PROGRAM] KEPT > shorter.txt
+    python3 examples/tools/shorten.py [--chain HEX] [--program PROGRAM] KEPT > shorter.txt
 
 KEPT has the items that were accepted so far, `m` and `close` lines in their order; other lines, and items that are
 refused, are left out. What is written is, in this order: for each ban its two announcements; the announcement of each
@@ -19,10 +19,15 @@ from __future__ import annotations
 import argparse
 import sys
 
+import top  # leads to gossip
 from history import PROGRAM, Failed, answered, chain_of, followed, read
 
+from gossip.messages import query_channel_range, query_line, query_short_channel_ids
+
 IDS_A_QUERY = 8_000  # at most 65,535 bytes
-ID = 16  # digits
+ALL_BLOCKS = 0, 0xFFFFFFFF
+IDS = 2 + 32 + 4 + 4 + 1 + 2 + 1  # the place of the ids in a reply_channel_range
+ID_LEN = 8
 
 
 def shortened(history):
@@ -35,27 +40,26 @@ def shortened(history):
             yield row.line
 
 
-def query(chain, ids):
-    """A query for all messages of channels, by their ids in digits."""
-    return f"q 0105{chain}{1 + 8 * len(ids):04x}00{''.join(ids)}"
+def replies(program, chain, lines, queries):
+    """The messages that answer queries behind these lines and a commit, in digits."""
+    count = len(lines) + 1
+    asked = [query_line(query).rstrip() for query in queries]
+    return [words for number, words in answered(program, chain, [*lines, "commit", *asked]) if number > count]
 
 
 def messages(program, chain, lines, ids):
     """All messages of channels that the map has after these lines."""
-    queries = [query(chain, ids[at:at + IDS_A_QUERY]) for at in range(0, len(ids), IDS_A_QUERY)]
-    count = len(lines) + 1
-    return {words for number, words in answered(program, chain, [*lines, "commit", *queries]) if number > count}
+    parts = (ids[at:at + IDS_A_QUERY] for at in range(0, len(ids), IDS_A_QUERY))
+    queries = [query_short_channel_ids(part, chain=bytes.fromhex(chain)) for part in parts]
+    return set(replies(program, chain, lines, queries))
 
 
 def ids_of(program, chain, lines):
-    """The ids of all channels after these lines, in digits."""
-    count = len(lines) + 1
-    asked = f"q 0107{chain}00000000ffffffff"
+    """The ids of all channels after these lines."""
     found = []
-    for number, words in answered(program, chain, [*lines, "commit", asked]):
-        if number > count:
-            encoded = words[2 * (2 + 32 + 4 + 4 + 1 + 2 + 1):]
-            found += [encoded[at:at + ID] for at in range(0, len(encoded), ID)]
+    for reply in replies(program, chain, lines, [query_channel_range(*ALL_BLOCKS, chain=bytes.fromhex(chain))]):
+        encoded = bytes.fromhex(reply)[IDS:]
+        found += [encoded[at:at + ID_LEN] for at in range(0, len(encoded), ID_LEN)]
     return found
 
 

@@ -1,7 +1,7 @@
 #!/usr/bin/env python3
 """Tests shorten.py: the shorter list gives the same map, bans included, and no line of it can be left out.
 
-    python3 examples/test_shorten.py [PROGRAM]
+    python3 examples/tools/test_shorten.py [PROGRAM]
 
 The maps are compared by all of their messages, by routes, and by what an announcement of each node is answered.
 """
@@ -14,11 +14,16 @@ from pathlib import Path
 
 sys.dont_write_bytecode = True  # the repository gets no made files
 
-from made_sources import HERE, channel, messages
-from network import Network  # of bench, where made_sources.py leads to
-from workloads import bans, churn, route_line
+from top import TOP
 
-PROGRAM = sys.argv[1] if len(sys.argv) > 1 else HERE.parent / "lgm"
+from gossip import messages
+from gossip.networks import Network
+from gossip.three_nodes import channel
+from gossip.workloads import bans, churn, route_line
+
+EXAMPLES = TOP / "examples"
+PROGRAM = sys.argv[1] if len(sys.argv) > 1 else TOP / "lgm"
+TOOL = EXAMPLES / "tools" / "shorten.py"
 CHAIN = messages.CHAIN.hex()
 FRESH = messages.short_channel_id(5_000_000, 1, 0)  # an id that no script has
 POINT = b"\x03" + b"\xff" * 32  # the other end of it, above all nodes
@@ -42,32 +47,27 @@ def shortened(kept):
     with tempfile.TemporaryDirectory() as folder:
         path = Path(folder) / "kept"
         path.write_text("".join(f"{line}\n" for line in kept))
-        words = [sys.executable, "-B", HERE / "shorten.py", "--program", PROGRAM, path]
+        words = [sys.executable, "-B", TOOL, "--program", PROGRAM, path]
         done = subprocess.run(words, capture_output=True, text=True, check=False)
     assert done.returncode == 0, done.stderr
     return done.stdout.splitlines()
 
 
-def points_of(lines):
-    """All nodes that announcements of channels name."""
-    found = set()
-    for line in lines:
-        message = bytes.fromhex(line.split()[1]) if line.startswith("m 0100") else b""
-        at = 260 + int.from_bytes(message[258:260], "big") + 40
-        found |= {message[at:at + 33], message[at + 33:at + 66]} if message else set()
-    return sorted(found)
+def announced(line):
+    """What the announcement of a channel says, in its line."""
+    return messages.decode(bytes.fromhex(line.split()[1]), messages.CHANNEL_ANNOUNCEMENT)
 
 
 def asked_of(lines, payments=()):
     """Questions that tell two maps apart, up to their hash seeds."""
-    ids = sorted({line.split()[1][2 * at:2 * at + 16] for line in lines if line.startswith("m 0100")
-                  for at in [260 + int(line.split()[1][516:520], 16) + 32]})
-    queries = [f"q 0105{CHAIN}{1 + 8 * len(ids[at:at + 4000]):04x}00{''.join(ids[at:at + 4000])}"
-               for at in range(0, len(ids), 4_000)]
-    offers = [f"m {channel(FRESH, *sorted((point, POINT))).hex()} all 1000" for point in points_of(lines)]
-    closes = f"close {5_000_000}x1x0"
-    return ["commit", f"q 0107{CHAIN}00000000ffffffff010101", *queries, *payments,
-            *(line for offer in offers for line in (offer, closes))]
+    channels = [announced(line) for line in lines if line.startswith("m 0100")]
+    ids = sorted({it.scid for it in channels})
+    queries = [messages.query_channel_range(0, 0xFFFFFFFF, with_timestamps=True)]
+    queries += [messages.query_short_channel_ids(ids[at:at + 4_000]) for at in range(0, len(ids), 4_000)]
+    points = sorted({point for it in channels for point in it.nodes})
+    offers = [f"m {channel(FRESH, *sorted((point, POINT))).hex()} all 1000" for point in points]
+    return ["commit", *(f"q {query.hex()}" for query in queries), *payments,
+            *(line for offer in offers for line in (offer, f"close {messages.scid_text(FRESH)}"))]
 
 
 def told(lines, asked):
@@ -89,7 +89,7 @@ def is_the_same(kept, payments=()):
 def examples_are_shortened():
     """Announcements, bans, updates and closes of the examples; no line of the shorter list can be left out."""
     names = ("announcements.txt", "map.txt", "queries.txt")
-    lines = [line for name in names for line in (HERE / name).read_text().split("\n")]
+    lines = [line for name in names for line in (EXAMPLES / name).read_text().split("\n")]
     kept = kept_of(lines)
     shorter = is_the_same(kept)
     assert 0 < len(shorter) < len(kept), (len(shorter), len(kept))
@@ -107,8 +107,7 @@ def a_made_network_is_shortened():
     drawn = random.Random(1)
     announcements = [line for line in lines if line.startswith("m 0100")]
     for line in drawn.sample(announcements, 40):
-        block, index, output = (int(line.split()[1][at:at + size], 16) for at, size in ((584, 6), (590, 6), (596, 4)))
-        lines.append(f"close {block}x{index}x{output}")
+        lines.append(close_of(line))
         lines += [line] if drawn.randrange(2) else []
     lines += [line.rstrip() for line in bans(network) if line.startswith("m 0100")][-4_000:-3_980]
     kept = kept_of(lines)
@@ -119,22 +118,21 @@ def a_made_network_is_shortened():
 
 def what_was_refused_is_left_out():
     """Refused items, comments and other lines don't matter; nothing is left of nothing."""
-    lines = (HERE / "map.txt").read_text().split("\n")
+    lines = (EXAMPLES / "map.txt").read_text().split("\n")
     assert shortened(lines) == shortened(kept_of(lines))
     first, *_ = kept_of(lines)
-    assert shortened([first, f"close {close_of(first)}"]) == []
+    assert shortened([first, close_of(first)]) == []
 
 
 def close_of(line):
-    """The id of an announcement without features, as text."""
-    block, index, output = (int(line.split()[1][at:at + size], 16) for at, size in ((584, 6), (590, 6), (596, 4)))
-    return f"{block}x{index}x{output}"
+    """The line that closes the channel of an announcement."""
+    return f"close {messages.scid_text(announced(line).scid)}"
 
 
 def a_fault_writes_nothing():
     """A program that fails, and a file without an announcement."""
-    for words in (["--program", "/bin/false", HERE / "map.txt"], ["/dev/null"]):
-        words = [sys.executable, "-B", HERE / "shorten.py", *words]
+    for words in (["--program", "/bin/false", EXAMPLES / "map.txt"], ["/dev/null"]):
+        words = [sys.executable, "-B", TOOL, *words]
         done = subprocess.run(words, capture_output=True, text=True, check=False)
         assert (done.returncode, done.stdout) == (1, "") and done.stderr.startswith("shorten: "), done
 

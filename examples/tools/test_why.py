@@ -1,7 +1,7 @@
 #!/usr/bin/env python3
 """Tests why.py: what it says of lines, and that it finds just those that `lgm` answers `bad`.
 
-    python3 examples/test_why.py [PROGRAM]
+    python3 examples/tools/test_why.py [PROGRAM]
 """
 
 import subprocess
@@ -12,8 +12,8 @@ sys.dont_write_bytecode = True  # the repository gets no made files
 
 from why import findings, reason
 
-HERE = Path(__file__).resolve().parent
-PROGRAM = sys.argv[1] if len(sys.argv) > 1 else HERE.parent / "lgm"
+TOP = Path(__file__).resolve().parents[2]
+PROGRAM = sys.argv[1] if len(sys.argv) > 1 else TOP / "lgm"
 POINT = "02" + "0a" * 32
 OTHER = "02" + "0b" * 32
 SECRET = "11" * 32

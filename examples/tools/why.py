@@ -1,7 +1,7 @@
 #!/usr/bin/env python3
 """Explains why lines of a script are answered `bad`: which field doesn't match the grammar of docs/script.md.
 
-    python3 examples/why.py SCRIPT          (- reads standard input)
+    python3 examples/tools/why.py SCRIPT          (- reads standard input)
 
 Prints `N: reason` for each such line, and for a line that ends the run because it is too long or one too many. The exit
 status is 0 if there are none, else 1. Only the grammar is checked: docs/questions.md explains messages that are refused

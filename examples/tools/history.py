@@ -14,17 +14,14 @@ shorten.py.
 from __future__ import annotations
 
 import subprocess
-import sys
 from collections import Counter
-from pathlib import Path
 from typing import NamedTuple
 
-HERE = Path(__file__).resolve().parent
-sys.path.append(str(HERE / "network"))
+from top import TOP
 
-from messages import Channel, Fault, Node, parsed
+from gossip.messages import ChannelAnnouncement, Fault, NodeAnnouncement, decode, scid_of
 
-PROGRAM = HERE.parent / "lgm"
+PROGRAM = TOP / "lgm"
 ITEMS = ("m", "close")
 BANNED, CLOSED = "banned", "closed"
 
@@ -85,13 +82,12 @@ class History:
             return
         kind, *fields = line.split(" ")
         if kind == "close":
-            block, index, output = map(int, fields[0].split("x"))
-            self._remove((block << 40 | index << 16 | output).to_bytes(8, "big"), CLOSED, number)
+            self._remove(scid_of(fields[0]), CLOSED, number)
             return
-        row = Row(parsed(bytes.fromhex(fields[0])), number, line)
-        if isinstance(row.message, Node):
+        row = Row(decode(bytes.fromhex(fields[0])), number, line)
+        if isinstance(row.message, NodeAnnouncement):
             self.nodes[row.message.point] = row
-        elif isinstance(row.message, Channel):
+        elif isinstance(row.message, ChannelAnnouncement):
             self._announce(row)
         else:
             self.updates[row.message.scid, row.message.direction] = row
@@ -133,7 +129,7 @@ def chain_of(lines):
     for line in lines:
         if line.startswith("m 0100"):
             try:
-                return parsed(bytes.fromhex(line.split(" ")[1])).chain.hex()
+                return decode(bytes.fromhex(line.split(" ")[1])).chain.hex()
             except (Fault, ValueError):
                 pass
     raise Failed("no line announces a channel, so the chain has to be given: --chain HEX")

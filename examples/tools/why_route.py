@@ -1,7 +1,7 @@
 #!/usr/bin/env python3
 """Explains a payment without a route: which condition decides, and what is wrong with the channels of payer and payee.
 
-    python3 examples/why_route.py [--known HEX] [--chain HEX] [--program PROGRAM] NETWORK 'route PAYER PAYEE ..'
+    python3 examples/tools/why_route.py [--known HEX] [--chain HEX] [--program PROGRAM] NETWORK 'route PAYER PAYEE ..'
 
 NETWORK is a script with the items of the map; of its other lines only `commit` matters. The program answers the payment
 over the map as it is, and then over maps that are made from it, in each of which one condition doesn't hold: minima,
@@ -18,9 +18,11 @@ from __future__ import annotations
 import argparse
 import sys
 
+import top  # leads to gossip
 from history import PROGRAM, Failed, answered, chain_of, followed, read
-from messages import scid_text  # of examples/network, where history.py leads to
 from route_conditions import CONDITIONS, MSAT, Made, objections
+
+from gossip.messages import scid_of, scid_text
 
 MOST_HOPS = 20
 LADDER = [10**exponent for exponent in range(16)]
@@ -29,7 +31,7 @@ REASONS = {
     "amount-too-large": "MSAT is above 2,100,000,000,000,000,000, all there is",
     "expiry-too-large": "EXPIRY is a block height, and above 498,000,000; is it a time?",
     "self-payment": "PAYER and PAYEE are the same node",
-    "bad": "the line doesn't match the grammar; python3 examples/why.py names the field"}
+    "bad": "the line doesn't match the grammar; python3 examples/tools/why.py names the field"}
 LISTED = 10  # channels of one node
 
 
@@ -78,8 +80,7 @@ class Inquiry:
         found = [["", []] for _ in payments]
         for number, words in answered(self._program, self._chain, [*lines, *payments], known and self._digits):
             if number >= first and words.startswith("hop "):
-                block, index, output = map(int, words.split(" ")[1].split("x"))
-                found[number - first][1].append((block << 40 | index << 16 | output).to_bytes(8, "big"))
+                found[number - first][1].append(scid_of(words.split(" ")[1]))
             elif number >= first:
                 found[number - first][0] = words
         return found

@@ -1,7 +1,10 @@
 """The lines of scripts (docs/script.md) over a synthetic network."""
 
-import messages
-from network import BLOCKS, DAY, FEATURES, NOW
+from gossip.messages import (
+    CHAIN, CHANNEL_ANNOUNCEMENT, CHANNEL_UPDATE, HAS_MAXIMUM, SIGNATURE_LEN, ChannelAnnouncement, ChannelUpdate,
+    NodeAnnouncement, channel_line, decode, gossip_timestamp_filter, query_channel_range, query_line,
+    query_short_channel_ids, short_channel_id, signed_line)
+from gossip.networks import BLOCKS, DAY, FEATURES, NOW
 
 RANGES = 10
 IDS_A_LIST = 1_000
@@ -27,26 +30,29 @@ BANNED_BLOCK = 2_000_000  # the first of blocks where the network has no channel
 
 def announcement_line(network, channel):
     """A channel's announcement, rightly signed and funded."""
-    message = messages.channel_announcement(
-        network.random.randbytes(messages.ANNOUNCEMENT_SIGNATURES), channel.scid,
-        channel.nodes, (network.point(), network.point()))
-    return f"m {message.hex()} all {channel.capacity}\n"
+    return channel_line(announcement(network, channel.scid, channel.nodes), channel.capacity)
+
+
+def announcement(network, scid, nodes=()):
+    """A channel's announcement. Its signatures and bitcoin keys are drawn; so are its nodes where none are given."""
+    signatures = network.random.randbytes(4 * SIGNATURE_LEN)
+    nodes = nodes or sorted((network.point(), network.point()))
+    return ChannelAnnouncement(CHAIN, scid, nodes).encode(signatures, (network.point(), network.point()))
 
 
 def update_line(network, channel, direction, timestamp):
     """An update of a channel by the node of its direction."""
-    message = messages.channel_update(
-        network.signature(), channel.scid, timestamp, network.channel_flags(direction),
-        network.terms(channel.capacity))
-    return f"m {message.hex()} {channel.nodes[direction].hex()} -\n"
+    signature, flags = network.signature(), network.channel_flags(direction)
+    update = ChannelUpdate(CHAIN, channel.scid, timestamp, HAS_MAXIMUM, flags, *network.terms(channel.capacity))
+    return signed_line(update.encode(signature), channel.nodes[direction])
 
 
 def node_line(network, node):
     """A node's announcement by itself."""
-    message = messages.node_announcement(
-        network.signature(), network.random.choice(FEATURES), network.timestamp(), node,
-        network.random.randbytes(3), network.alias(node), network.addresses())
-    return f"m {message.hex()} {node.hex()} -\n"
+    signature = network.signature()
+    found = NodeAnnouncement(network.random.choice(FEATURES), network.timestamp(), node)
+    message = found.encode(signature, network.random.randbytes(3), network.alias(node), network.addresses())
+    return signed_line(message, node)
 
 
 def sync(network):
@@ -67,28 +73,23 @@ def sync(network):
 def queries(network):
     """The network, ten ranges of blocks, and each channel queried once in lists of ids."""
     yield from sync(network)
-    yield query_line(messages.query_channel_range(0, 0xFFFFFFFF, True))
+    yield query_line(query_channel_range(0, 0xFFFFFFFF, True))
     for number in range(1, RANGES):
         first = network.random.choice(BLOCKS)
         blocks = network.random.randrange(1, len(BLOCKS) // 4)
-        yield query_line(messages.query_channel_range(first, blocks, number % 2 == 0))
+        yield query_line(query_channel_range(first, blocks, number % 2 == 0))
     scids = [channel.scid for channel in network.channels]
     network.random.shuffle(scids)
     for start in range(0, len(scids), IDS_A_LIST):
         yield ids_line(network, sorted(scids[start:start + IDS_A_LIST]))
 
 
-def query_line(message):
-    """A query as a line."""
-    return f"q {message.hex()}\n"
-
-
 def ids_line(network, scids):
     """A list of ids; about half of the lists ask by flags for some of the messages alone."""
     if network.random.randrange(2):
-        return query_line(messages.query_short_channel_ids(scids))
+        return query_line(query_short_channel_ids(scids))
     flags = bytes(network.random.choice((1, 6, 7, 31)) for _ in scids)
-    return query_line(messages.query_short_channel_ids(scids, flags))
+    return query_line(query_short_channel_ids(scids, flags))
 
 
 def route_line(network):
@@ -110,9 +111,9 @@ def slow_routes(network):
     """The network, and a thousand payments. Every twentieth channel is free, and delays by 2,016 blocks."""
     channels = 0
     for line in routes(network):
-        channels += is_of(line, messages.CHANNEL_ANNOUNCEMENT)
-        if channels % 20 == 0 and is_of(line, messages.CHANNEL_UPDATE):
-            line = with_terms(line, (SLOW, None, 0, 0, None))
+        channels += is_of(line, CHANNEL_ANNOUNCEMENT)
+        if channels % 20 == 0 and is_of(line, CHANNEL_UPDATE):
+            line = with_terms(line, cltv_expiry_delta=SLOW, fee_base_msat=0, fee_proportional_millionths=0)
         yield line
 
 
@@ -120,26 +121,27 @@ def lured_routes(network):
     """The network, and a thousand payments. Each node's cheapest update has the greatest delta."""
     lines, cheapest = list(routes(network)), {}
     for place, line in enumerate(lines):
-        if is_of(line, messages.CHANNEL_UPDATE):
-            _, _, base, millionths, _ = messages.terms_of(bytes.fromhex(line.split()[1]))
-            fee, node = base * 1_000_000 + millionths * LURED_AMOUNT, line.split()[2]
+        if is_of(line, CHANNEL_UPDATE):
+            _, message, node, _ = line.split()
+            update = decode(bytes.fromhex(message))
+            fee = update.fee_base_msat * 1_000_000 + update.fee_proportional_millionths * LURED_AMOUNT
             cheapest[node] = min(cheapest.get(node, (fee, place)), (fee, place))
     for _, place in cheapest.values():
-        lines[place] = with_terms(lines[place], (SLOWEST, None, None, None, None))
+        lines[place] = with_terms(lines[place], cltv_expiry_delta=SLOWEST)
     yield from lines
 
 
 def is_of(line, kind):
     """Whether a line is a message of this type."""
-    return line.startswith(f"m {kind.hex()}")
+    return line.startswith(f"m {kind:04x}")
 
 
-def with_terms(line, terms):
-    """The line of an update with these terms; its own where they are None."""
-    word, message, *rest = line.split()
-    old = bytes.fromhex(message)
-    terms = tuple(own if new is None else new for own, new in zip(messages.terms_of(old), terms))
-    return " ".join((word, messages.with_terms(old, terms).hex(), *rest)) + "\n"
+def with_terms(line, **terms):
+    """The line of an update with these terms in place of its own, and its own signature."""
+    word, digits, *rest = line.split()
+    message = bytes.fromhex(digits)
+    changed = decode(message)._replace(**terms).encode(message[2:2 + SIGNATURE_LEN])
+    return " ".join((word, changed.hex(), *rest)) + "\n"
 
 
 def rounds(network, routes_a_round=0):
@@ -177,7 +179,7 @@ def filters(network):
     """The network, ten peers with filters, and rounds of updates that are news to them."""
     yield from sync(network)
     for peer, age in enumerate(FILTER_AGES):
-        message = messages.gossip_timestamp_filter(NOW - age, ALL_TIMES)
+        message = gossip_timestamp_filter(NOW - age, ALL_TIMES)
         yield f"filter {peer} {message.hex()}\n"
     yield from rounds(network)
 
@@ -186,7 +188,7 @@ def peers(network):
     """The network, a thousand peers with filters of times to come, and rounds of updates beside them."""
     yield from sync(network)
     for peer in range(PEERS):
-        message = messages.gossip_timestamp_filter(TIMES_TO_COME, ALL_TIMES - TIMES_TO_COME)
+        message = gossip_timestamp_filter(TIMES_TO_COME, ALL_TIMES - TIMES_TO_COME)
         yield f"filter {peer} {message.hex()}\n"
     yield from rounds(network)
 
@@ -195,26 +197,23 @@ def ranges(network):
     """The network, and queries of the range of all blocks, with timestamps."""
     yield from sync(network)
     for _ in range(FULL_RANGES):
-        yield query_line(messages.query_channel_range(0, 0xFFFFFFFF, True))
+        yield query_line(query_channel_range(0, 0xFFFFFFFF, True))
 
 
 def blocks(network):
     """The network, and queries of the range of one block each."""
     yield from sync(network)
     for _ in range(ONE_BLOCK_RANGES):
-        yield query_line(messages.query_channel_range(network.random.choice(BLOCKS), 1, True))
+        yield query_line(query_channel_range(network.random.choice(BLOCKS), 1, True))
 
 
 def bans(network):
     """The network, and pairs of announcements that contradict each other, between nodes of their own."""
     yield from sync(network)
     for number in range(BANS):
-        scid = messages.short_channel_id(BANNED_BLOCK + number, 0, 0)
+        scid = short_channel_id(BANNED_BLOCK + number, 0, 0)
         for _ in range(2):
-            message = messages.channel_announcement(
-                network.random.randbytes(messages.ANNOUNCEMENT_SIGNATURES), scid,
-                sorted((network.point(), network.point())), (network.point(), network.point()))
-            yield f"m {message.hex()} all 100000\n"
+            yield channel_line(announcement(network, scid), 100_000)
     yield "commit\n"
 
 

@@ -2,7 +2,7 @@
 """Tests the converters of examples/network and its table: on three nodes from each kind of source, run through `lgm` up
 to a route that is worked out here; on records and rows of all kinds; on faults; and on a synthetic network.
 
-    python3 examples/test_network.py [PROGRAM]
+    python3 examples/network/test_network.py [PROGRAM]
 """
 
 import subprocess
@@ -14,13 +14,17 @@ from pathlib import Path
 sys.dont_write_bytecode = True  # the repository gets no made files
 
 from made_sources import (
-    A, AMOUNT, B, C, DELETED, DYING, FIRST, HERE, IS_DYING, NOBODY, REPLACED, SECOND, TAKEN_OUT, TERMS_OF_A,
-    TERMS_OF_B, VERSION, ZOMBIE, announced, channel, crc32c, database, funded, graph, messages, node, own, policy,
-    record, spelled, store, update, updated)
-from network import Network  # of bench, where made_sources.py leads to
-from workloads import sync
+    AMOUNT, DELETED, DYING, IS_DYING, REPLACED, TAKEN_OUT, VERSION, ZOMBIE, announced, crc32c, database, funded, graph,
+    own, policy, record, spelled, store, updated)
+from top import TOP
 
-PROGRAM = sys.argv[1] if len(sys.argv) > 1 else HERE.parent / "lgm"
+from gossip import messages
+from gossip.networks import Network
+from gossip.three_nodes import A, B, C, FIRST, NOBODY, SECOND, TERMS_OF_A, TERMS_OF_B, channel, node, update
+from gossip.workloads import sync
+
+PROGRAM = sys.argv[1] if len(sys.argv) > 1 else TOP / "lgm"
+EXAMPLES = TOP / "examples"
 CHAIN = messages.CHAIN.hex()
 NAMES = {"A": A, "B": B, "C": C, "nobody": NOBODY, "first": FIRST, "second": SECOND}
 
@@ -41,7 +45,7 @@ def converted(content, *options):
     with tempfile.TemporaryDirectory() as folder:
         path = Path(folder) / "source"
         path.write_bytes(content)
-        words = [sys.executable, "-B", HERE / "network", *options, path]
+        words = [sys.executable, "-B", EXAMPLES / "network", *options, path]
         done = subprocess.run(words, capture_output=True, text=True, check=False)
     said = done.stderr.replace(str(path), "FILE").splitlines()
     return done.returncode, done.stdout.splitlines(), said
@@ -241,9 +245,9 @@ def a_graph_gives_its_route():
 def a_graph_says_what_its_messages_say():
     _, script, _ = converted(spelled(graph()), "--chain", CHAIN)
     sent = [bytes.fromhex(line.split()[1]) for line in script if line.startswith("m ")]
-    disabled = messages.channel_update(bytes(64), SECOND, 1_700_000_000, 3, TERMS_OF_A)
-    alice = messages.node_announcement(bytes(64), bytes([0x81, 0]), 1_700_000_001, A, bytes(3), b"alice", b"")
-    carol = messages.node_announcement(bytes(64), b"", 1_700_000_003, C, bytes(3), "carol \u26a1".encode(), b"")
+    disabled = update(SECOND, TERMS_OF_A, 3, 1_700_000_000)
+    alice = node(A, bytes([0x81, 0]), 1_700_000_001, b"alice")
+    carol = node(C, b"", 1_700_000_003, "carol \u26a1".encode())
     assert sent[4:] == [disabled, alice, carol]
     _, script, _ = converted(spelled(graph()))
     mainnet = "6fe28c0ab6f1b372c1a6a246ae63f74f931e8365e15a089c68d6190000000000"
@@ -254,8 +258,7 @@ def an_alias_is_cut_at_32_bytes():
     found = graph()
     found["nodes"][0]["alias"] = "\ufffd" * 11  # 33 bytes
     _, script, _ = converted(spelled(found), "--chain", CHAIN)
-    message = messages.node_announcement(
-        bytes(64), bytes([0x81, 0]), 1_700_000_001, A, bytes(3), b"\xef\xbf\xbd" * 10 + b"\xef\xbf", b"")
+    message = node(A, bytes([0x81, 0]), 1_700_000_001, b"\xef\xbf\xbd" * 10 + b"\xef\xbf")
     assert f"m {message.hex()} {A.hex()} -" in script
 
 
@@ -359,7 +362,7 @@ def the_table_follows_closes_and_counts_what_it_leaves_out():
 
 
 def the_table_takes_what_lgm_accepts():
-    content = (HERE / "map.txt").read_bytes()
+    content = (EXAMPLES / "map.txt").read_bytes()
     given = [line for line in content.decode().splitlines() if line.startswith(("m ", "close "))]
     refused = [word for word in answers(given) if word != "accepted"]
     assert values(converted(content, "--summary")[1])["items not taken"] == str(len(refused)) == "6", refused

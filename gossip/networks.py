@@ -8,7 +8,7 @@ import random
 from itertools import accumulate
 from typing import NamedTuple
 
-import messages
+from gossip.messages import SIGNATURE_LEN, features, short_channel_id
 
 NOW = 1_760_000_000  # seconds; no drawn timestamp is later
 DAY = 86_400
@@ -22,9 +22,9 @@ MINIMUMS = (1_000,) * 70 + (1,) * 20 + (0,) * 5 + (10_000,) * 5  # msat
 BASE_FEES = (1_000,) * 50 + (0,) * 35 + (1,) * 5 + (500, 2_000, 5_000)  # msat
 MILLIONTHS = (1,) * 15 + (10,) * 10 + (50,) * 15 + (150,) * 25 + (500,) * 25 + (1_500,) * 10
 FEATURES = (
-    (messages.features(0, 5, 7, 9, 12, 14, 17, 19, 23, 25, 27, 31, 45, 47, 51, 55),) * 80
-    + (messages.features(1, 5, 7, 8, 11, 12, 14, 17, 19, 23, 25, 27, 39, 45, 47, 51),) * 12
-    + (messages.features(1, 5, 7, 8, 11, 13, 14, 17, 19, 27, 35, 45),) * 8)
+    (features(0, 5, 7, 9, 12, 14, 17, 19, 23, 25, 27, 31, 45, 47, 51, 55),) * 80
+    + (features(1, 5, 7, 8, 11, 12, 14, 17, 19, 23, 25, 27, 39, 45, 47, 51),) * 12
+    + (features(1, 5, 7, 8, 11, 13, 14, 17, 19, 27, 35, 45),) * 8)
 ADDRESSES = (
     ("tor",) * 55 + ("ipv4",) * 20 + ("ipv4 tor",) * 15 + ("ipv4 ipv6",) * 4 + ("name",) * 3
     + ("",) * 3)
@@ -74,7 +74,7 @@ class Network:
         seen = set()
         while True:
             block, index = self.random.choice(BLOCKS), self.random.randrange(1, 3_500)
-            scid = messages.short_channel_id(block, index, self.random.randrange(2))
+            scid = short_channel_id(block, index, self.random.randrange(2))
             if scid not in seen:
                 seen.add(scid)
                 yield scid
@@ -86,7 +86,7 @@ class Network:
 
     def signature(self):
         """64 bytes, right by the verdict alone."""
-        return self.random.randbytes(messages.SIGNATURE)
+        return self.random.randbytes(SIGNATURE_LEN)
 
     def timestamp(self):
         """Seconds: half of the last day, half of the last two weeks."""
@@ -101,7 +101,7 @@ class Network:
         return direction | 2 * (self.random.randrange(12) == 0)
 
     def terms(self, capacity):
-        """An update's delta, minimum, base fee, proportional fee in ppm, and maximum."""
+        """An update's terms: delta, minimum, base fee, proportional fee in ppm, and maximum."""
         choice = self.random.choice
         millionths = choice(MILLIONTHS)
         return (choice(DELTAS), choice(MINIMUMS), choice(BASE_FEES),
