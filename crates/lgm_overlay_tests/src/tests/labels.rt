@@ -150,23 +150,32 @@ fn least_delay(
     }
 }
 
+/// Whether the labels that suffice do so, if the payment has a route. Returns the index of the next payment's.
+fn suffices(
+    rt: &impl Abort,
+    alloc: Global,
+    map: &Map,
+    request: &Request,
+    place: usize,
+) -> Result<usize, AllocError> {
+    let Some(delay) = least_delay(rt, alloc, map, request)? else {
+        return Ok(place);
+    };
+    let enough = ENOUGH.get(place).copied().unwrap_or(0);
+    let decided = is_decided(rt, alloc, map, request, delay.saturating_sub(1), enough)?;
+    assert!(rt; decided, "payment {place} within {enough} labels");
+    Ok(place.saturating_add(1))
+}
+
 #[test]
 fn few_labels_just_below(rt: HostRuntime) -> Result<(), Fail> {
     let alloc = rt.alloc();
     let mut numbers = Numbers::new(3);
     let map = made_map(alloc, &mut numbers)?;
-    let mut place: usize = 0;
-    for turn in 0..12 {
+    let mut place = 0;
+    for _turn in 0..12 {
         let request = payment(&mut numbers);
-        let Some(delay) = least_delay(&rt, alloc, &map, &request)? else {
-            continue;
-        };
-        let Some(enough) = ENOUGH.get(place) else {
-            break;
-        };
-        let decided = is_decided(&rt, alloc, &map, &request, delay - 1, *enough)?;
-        assert!(rt; decided, "payment {turn} within {enough} labels");
-        place = place.saturating_add(1);
+        place = suffices(&rt, alloc, &map, &request, place)?;
     }
     assert_eq!(rt; place, ENOUGH.len());
     Ok(())
