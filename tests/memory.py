@@ -3,6 +3,8 @@
 
     python3 tests/memory.py
 
+It is run by hand, after `rt ci`.
+
 A test of the crates can't refuse memory itself. These are written so that they pass wherever one request is refused: a
 call that returns out of memory has left all as before, and gives its right answer when it is called again. They are the
 programs that `rt ci` leaves in `crates/NAME/out`, built of what was proved. It needs the GNU C library and a C compiler
