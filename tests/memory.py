@@ -26,7 +26,6 @@ TESTS = (
     ("lgm_overlay_tests", "tests::memory::refused_memory"),
     ("lgm_route_tests", "tests::refused::refused_memory"),
     ("lgm_worked_tests", "tests::faults::refused_memory"),
-    ("lgm_worked_tests", "tests::views::refused_memory"),
     ("lgm_live_tests", "routes::refused_memory"),
     ("lgm_start_tests", "deciding::refused_memory_has_its_line"),
 )

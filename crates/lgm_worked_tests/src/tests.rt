@@ -4,4 +4,3 @@ mod filters;
 mod items;
 mod payments;
 mod queries;
-mod views;
