@@ -23,9 +23,11 @@ CRATES = HERE.parent / "crates"
 TESTS = (
     ("lgm_message_tests", "wire::memory_refused"),
     ("lgm_unit_tests", "tests::publish::refused::nothing_is_lost"),
+    ("lgm_unit_tests", "tests::graph::a_refused_step_leaves_map_and_view"),
     ("lgm_overlay_tests", "tests::memory::refused_memory"),
     ("lgm_route_tests", "tests::refused::refused_memory"),
     ("lgm_worked_tests", "tests::faults::refused_memory"),
+    ("lgm_worked_tests", "tests::views::refused_memory"),
     ("lgm_live_tests", "routes::refused_memory"),
     ("lgm_start_tests", "deciding::refused_memory_has_its_line"),
 )
@@ -34,9 +36,12 @@ SECONDS = 20
 
 
 def passes(program, name, more):
-    """Whether a test passes, with these variables in its environment."""
-    ran = subprocess.run([program, name], stdin=subprocess.DEVNULL, stdout=subprocess.DEVNULL, stderr=subprocess.DEVNULL,
-                         timeout=SECONDS, check=False, env={**os.environ, **more})
+    """Whether a test passes in time, with these variables in its environment."""
+    try:
+        ran = subprocess.run([program, name], stdin=subprocess.DEVNULL, stdout=subprocess.DEVNULL,
+                             stderr=subprocess.DEVNULL, timeout=SECONDS, check=False, env={**os.environ, **more})
+    except subprocess.TimeoutExpired:
+        return False
     return ran.returncode == 0
 
 

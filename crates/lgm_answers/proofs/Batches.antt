@@ -2,7 +2,7 @@
 use Rattle.std.proofs.Common.{◌≡◌, ℕ, Result, Ok, Err, List, [], ◌++◌, sym, ap, ◌∙◌, append_assoc, refl}
 use Rattle.lgm_script.specs.declared.output.SendFault.{SendFault}
 use Rattle.lgm_script.specs.Output.{OutputState, TellsPart, Writes}
-use Rattle.lgm_script.proofs.Telling.{Onward, onward_more, onward_stops, onward_ends}
+use Rattle.lgm_script.proofs.WrittenTextLaws.{Onward, onward_more, onward_stops, onward_ends}
 use Rattle.lgm_answers.specs.inner.Batch.{TellsFront}
 
 module _ (old mid new : OutputState) (whole waiting rest : List ℕ) (on : Onward old mid whole (waiting ++ rest)) where

@@ -1,6 +1,8 @@
 -- The text of answers.
 use Rattle.std.specs.Prelude.{ℕ, List, ◌++◌, length, Option, Some, None, Result, Ok, Err, codes}
 use Rattle.std.specs.List.{flat_map, zip}
+use Rattle.lgm_wire.specs.declared.chain_hash.ChainHash.{ChainHash}
+use Rattle.lgm_gossip.specs.declared.range_query.RangeQuery.{RangeQuery}
 use Rattle.lgm_check.specs.declared.refusal.Refusal.{Refusal}
 use Rattle.lgm_check.specs.Refusal.{word_of}
 use Rattle.lgm_store.specs.Rows.{Rows}
@@ -16,7 +18,6 @@ use Rattle.lgm_route.specs.Words.{route_word}
 use Rattle.lgm_payload.specs.Building.{payloads_of}
 use Rattle.lgm_script.specs.Text.{word_line, commit_line, message_line, route_line, hop_line}
 use Rattle.lgm_answers.specs.declared.answer.Answer.{Answer}
-use Rattle.lgm_answers.specs.declared.answer.RangeAsked.{RangeAsked}
 use Rattle.lgm_answers.specs.declared.answer.Answer.TheVariants as answers
 use Rattle.lgm_answers.specs.declared.filters.PeerFilter.{PeerFilter}
 
@@ -34,8 +35,8 @@ query_text number (Ok messages) = flat_map (message_line number None) messages
 query_text number (Err fault) = word_line number (request_word fault)
 
 -- a query of a range is answered with its replies
-abbrev pub range_text : ℕ → RangeAsked → List ℕ
-range_text number asked = query_text number (Ok (range_reply asked.chain asked.map.now asked.query))
+abbrev pub range_text : ℕ → ChainHash → Rows → RangeQuery → List ℕ
+range_text number chain rows query = query_text number (Ok (range_reply chain rows query))
 
 -- a filter is answered with its word, and then what passes it of these rows, or why it is none
 abbrev pub filter_text : ℕ → ℕ → Rows → Result Filter RequestFault → List ℕ
@@ -67,15 +68,11 @@ abbrev pub route_text : ℕ → List ℕ → Result (List Hop) RouteFault → Li
 route_text number secret (Ok hops) = routed_text number hops (payloads_of secret hops)
 route_text number secret (Err fault) = word_line number (route_word fault)
 
--- the text of an answer, for the line with this number
-abbrev pub answer_text : ℕ → Answer → List ℕ
-answer_text number answers.Bad = word_line number (codes "bad")
-answer_text number (answers.Messages messages) = query_text number (Ok messages)
-answer_text number (answers.Range asked) = range_text number asked
-answer_text number (answers.Refused fault) = word_line number (request_word fault)
-answer_text number (answers.Backlog own map) = filter_text number own.peer map.now (Ok own.filter)
-answer_text number (answers.Committed accepted) = commit_line number accepted
-answer_text number (answers.News accepted filters map_diff) =
-    commit_text number accepted map_diff.before map_diff.after filters.now
-answer_text number (answers.Routed route payloads) = routed_text number route payloads
-answer_text number (answers.Unrouted fault) = word_line number (route_word fault)
+-- the text of an answer on the rows of a map of the chain, for the line with this number
+abbrev pub answer_text : ChainHash → Rows → ℕ → Answer → List ℕ
+answer_text chain rows number answers.Bad = word_line number (codes "bad")
+answer_text chain rows number (answers.Refused fault) = word_line number (request_word fault)
+answer_text chain rows number (answers.Replies messages) = query_text number (Ok messages)
+answer_text chain rows number (answers.Range query) = range_text number chain rows query
+answer_text chain rows number (answers.Filter own) = filter_text number own.peer rows (Ok own.filter)
+answer_text chain rows number (answers.Route secret found) = route_text number secret found

@@ -1,105 +1,74 @@
 //! Writing messages, one per line.
 
-ghost use Rattle.std.specs.Prelude.{ℕ, List, Ok, Some};
+ghost use Rattle.std.specs.Prelude.{ℕ, List, Ok};
 ghost use Rattle.std.specs.Iterator.{IsFinite, AlwaysYields};
 ghost use Rattle.std.specs.List.{flat_map};
 ghost use Rattle.lgm_script.specs.Output.{told_by, Writes};
-ghost use Rattle.lgm_script.specs.Text.{message_behind, message_line};
+ghost use Rattle.lgm_script.specs.Text.{message_line};
 ghost use Rattle.lgm_answers.specs.Answer.{query_text, range_text, filter_text, news_text, commit_text};
 
-use crate::answer::RangeAsked;
 use crate::batch::Batch;
 use crate::filters::{Filters, PeerFilter};
-use lgm_query::{Backlog, MapDiff, ReplyMessage, answer_range};
+use lgm_gossip::{ChainHash, RangeQuery};
+use lgm_query::{Backlog, MapDiff, Replies, answer_range};
 use lgm_script::{Lead, Line, Output, SendFault, Sink};
 use lgm_store::Map;
 use std::alloc::Global;
 
-/// Writes messages after a lead, one after the other.
-fn send_replies<W: Sink>(
+/// Writes messages, one after the other, as the answer to a line or for a peer.
+fn send_messages<'a, I: Iterator<Item = &'a [u8]> + Drop, W: Sink>(
     alloc: Global,
-    lead: &Lead,
-    messages: &[ReplyMessage<'_>],
+    number: u64,
+    peer: Option<u16>,
+    messages: I,
     output: &mut Output<'_, W>,
 ) -> Result<(), SendFault>
-    ensures { Writes (told_by W.seen output.old) (told_by W.seen output.new)
-        (flat_map (message_behind lead.now) messages.now) result }
+    requires can { I.can_next messages }
+    requires ends { IsFinite (I.remaining messages) }
+    ensures { (all : List (List ℕ)) → AlwaysYields I.next_gives (λ message. message.now) messages all
+        → Writes (told_by W.seen output.old) (told_by W.seen output.new)
+        (flat_map (message_line number peer) all) result }
 {
+    let lead = Lead::new(alloc, number, peer)?;
     let mut batch = Batch::new(alloc)?;
     for message in messages {
-        batch.add(message.as_slice(), lead, output)?;
+        batch.add(message, &lead, output)?;
     }
-    batch.send(lead, output)
+    batch.send(&lead, output)
 }
 
 /// Writes the messages of the reply to a query.
-pub(crate) fn send_messages<W: Sink>(
+pub(crate) fn send_replies<W: Sink>(
     alloc: Global,
     number: u64,
-    messages: &[ReplyMessage<'_>],
+    replies: &Replies<'_>,
     output: &mut Output<'_, W>,
 ) -> Result<(), SendFault>
     ensures { Writes (told_by W.seen output.old) (told_by W.seen output.new)
-        (query_text number (Ok messages.now)) result }
+        (query_text number (Ok replies.now)) result }
 {
-    let lead = Lead::new(alloc, number, None)?;
-    send_replies(alloc, &lead, messages, output)
+    let messages = replies.as_slice().iter().map(|message| message.as_slice());
+    send_messages(alloc, number, None, messages, output)
 }
 
 /// Makes the replies to a query of a range, and writes them.
 pub(crate) fn send_range<W: Sink>(
     alloc: Global,
     number: u64,
-    asked: &RangeAsked<'_>,
+    chain: &ChainHash,
+    map: &Map,
+    query: &RangeQuery,
     output: &mut Output<'_, W>,
 ) -> Result<(), SendFault>
     ensures { Writes (told_by W.seen output.old) (told_by W.seen output.new)
-        (range_text number asked.now) result }
+        (range_text number chain.now map.now query.now) result }
 {
-    let replies = answer_range(alloc, &asked.chain, asked.map, &asked.query)?;
-    send_messages(alloc, number, replies.as_slice(), output)
-}
-
-/// Writes the messages that an iterator yields after a lead, one after the other.
-fn send_each<'a, I: Iterator<Item = &'a [u8]> + Drop, W: Sink>(
-    alloc: Global,
-    lead: &Lead,
-    messages: I,
-    output: &mut Output<'_, W>,
-) -> Result<(), SendFault>
-    requires can { I.can_next messages }
-    requires ends { IsFinite (I.remaining messages) }
-    ensures { (all : List (List ℕ)) → AlwaysYields I.next_gives (λ message. message.now) messages all
-        → Writes (told_by W.seen output.old) (told_by W.seen output.new)
-        (flat_map (message_behind lead.now) all) result }
-{
-    let mut batch = Batch::new(alloc)?;
-    for message in messages {
-        batch.add(message, lead, output)?;
-    }
-    batch.send(lead, output)
-}
-
-/// Writes messages for a peer, one after the other.
-fn send_to<'a, I: Iterator<Item = &'a [u8]> + Drop, W: Sink>(
-    alloc: Global,
-    number: u64,
-    peer: u16,
-    messages: I,
-    output: &mut Output<'_, W>,
-) -> Result<(), SendFault>
-    requires can { I.can_next messages }
-    requires ends { IsFinite (I.remaining messages) }
-    ensures { (all : List (List ℕ)) → AlwaysYields I.next_gives (λ message. message.now) messages all
-        → Writes (told_by W.seen output.old) (told_by W.seen output.new)
-        (flat_map (message_line number (Some peer)) all) result }
-{
-    let lead = Lead::new(alloc, number, Some(peer))?;
-    send_each(alloc, &lead, messages, output)
+    let replies = answer_range(alloc, chain, map, query)?;
+    send_replies(alloc, number, &replies, output)
 }
 
 /// Writes that a peer has a filter, and then what passes it of a map.
-pub(crate) fn send_filtered<W: Sink>(
+pub(crate) fn send_backlog<W: Sink>(
     alloc: Global,
     number: u64,
     own: &PeerFilter,
@@ -110,13 +79,8 @@ pub(crate) fn send_filtered<W: Sink>(
         (filter_text number own.now.peer map.now (Ok own.now.filter)) result }
 {
     output.send(number, &Line::Word("filter"))?;
-    send_to(
-        alloc,
-        number,
-        own.peer,
-        Backlog::of(map, &own.filter),
-        output,
-    )
+    let messages = Backlog::of(map, &own.filter);
+    send_messages(alloc, number, Some(own.peer), messages, output)
 }
 
 /// Writes the news of each peer with a filter, by ascending peer.
@@ -132,13 +96,14 @@ fn send_all_news<W: Sink>(
         result }
 {
     for (_, own) in filters.as_map() {
-        send_to(alloc, number, own.peer, map_diff.news(&own.filter), output)?;
+        let messages = map_diff.news(&own.filter);
+        send_messages(alloc, number, Some(own.peer), messages, output)?;
     }
     Ok(())
 }
 
 /// Writes the number of accepted items, and then the news of each peer.
-pub(crate) fn send_news<W: Sink>(
+pub fn send_commit<W: Sink>(
     alloc: Global,
     number: u64,
     accepted: u64,

@@ -14,7 +14,7 @@ use Rattle.lgm_gossip.specs.declared.message.Message.{Message}
 use Rattle.lgm_gossip.specs.declared.message.Message.TheVariants as messages
 use Rattle.lgm_gossip.specs.reading.MessageReading.{message_at}
 use Rattle.lgm_check.specs.Precheck.{require, capacity_of, is_all_four, signer_of, is_private, has_lawful_points, are_in_order}
-use Rattle.lgm_check.specs.Precheck.{channel_of as channel_row, update_of as update_row, node_of as node_row, checked_of, checked_read}
+use Rattle.lgm_check.specs.Precheck.{announced_channel as channel_row, signed_update as update_row, announced_node as node_row, checked_of, checked_read}
 use Rattle.lgm_check.specs.Precheck.{checked_announce, checked_update, checked_node}
 use Rattle.lgm_check.specs.declared.evidence.Evidence.{Evidence}
 use Rattle.lgm_check.specs.declared.refusal.Refusal.{Refusal}

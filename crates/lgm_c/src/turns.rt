@@ -1,7 +1,7 @@
 //! Networks that take turns to be published.
 
 ghost use Rattle.std.specs.Prelude.{◌≡◌, [], ◌∷◌, IfOk, IfSome};
-ghost use Rattle.lgm_c.specs.inner.Networks.{network_rows, rows_behind, IsAt};
+ghost use Rattle.lgm_c.specs.inner.Networks.{network_rows, rows_after, IsAt};
 
 use crate::edition::Edition;
 use lgm_graph::{Network, Replica};
@@ -13,44 +13,44 @@ use std::marker::Model;
 /// A published network, and the operations that were applied to the current map since. Contracts see its rows once
 /// they are applied to it.
 #[derive(Drop)]
-pub struct Behind {
+pub struct Lagging {
     edition: Edition,
     due: VecDeque<Op>,
 }
 
-impl Model for Behind {
-    ghost use Rattle.lgm_c.specs.inner.Networks.{NetworkRows, rows_behind};
+impl Model for Lagging {
+    ghost use Rattle.lgm_c.specs.inner.Networks.{NetworkRows, rows_after};
 
     ghost Value = { NetworkRows };
 
-    ghost view = { λ b. rows_behind b.edition b.due.items };
+    ghost view = { λ b. rows_after b.edition b.due.items };
 }
 
-impl Behind {
+impl Lagging {
     /// A network to which no operation is due.
-    fn at(alloc: Global, edition: Edition) -> Behind
+    fn at(alloc: Global, edition: Edition) -> Lagging
         ensures { result ≡ edition }
     {
-        Behind {
+        Lagging {
             edition,
             due: VecDeque::new(alloc),
         }
     }
 
     /// With one more operation that is due. The only error is out of memory.
-    fn noted(self, alloc: Global, op: &Op) -> Result<Behind, AllocError>
-        ensures { IfOk result (λ behind. behind ≡ rows_behind self (op.now ∷ [])) }
+    fn noted(self, alloc: Global, op: &Op) -> Result<Lagging, AllocError>
+        ensures { IfOk result (λ lagging. lagging ≡ rows_after self (op.now ∷ [])) }
     {
-        let Behind { edition, mut due } = self;
+        let Lagging { edition, mut due } = self;
         due.push_back(op.copy(alloc)?)?;
-        Ok(Behind { edition, due })
+        Ok(Lagging { edition, due })
     }
 
     /// The network after what is due is applied, if it has no other owner and memory suffices.
     fn caught_up(self, alloc: Global) -> Option<Edition>
         ensures { IfSome result (λ edition. edition ≡ self) }
     {
-        let Behind { edition, due } = self;
+        let Lagging { edition, due } = self;
         let network = edition.into_network()?;
         let mut replica = Replica { network, due };
         replica.catch_up().ok()?;
@@ -59,30 +59,30 @@ impl Behind {
     }
 }
 
-/// The next network to be published: the one behind, if it can catch up, or else a copy of the current one. The only
+/// The next network to be published: the one that lags, if it can catch up, or else a copy of the current one. The only
 /// error is out of memory.
 fn next_edition(
     alloc: Global,
-    older: Option<Behind>,
+    older: Option<Lagging>,
     network: &Network,
 ) -> Result<Edition, AllocError>
     requires { IsAt older (network_rows network.now) }
     ensures { IfOk result (λ edition. edition ≡ network_rows network.now) }
 {
-    if let Some(behind) = older {
-        if let Some(edition) = behind.caught_up(alloc) {
+    if let Some(lagging) = older {
+        if let Some(edition) = lagging.caught_up(alloc) {
             return Ok(edition);
         }
     }
     Edition::copy(alloc, network)
 }
 
-/// The network that was published last, and the one before, if there is one: each is behind the current one by the
+/// The network that was published last, and the one before, if there is one: each lags the current one by the
 /// operations that are due to it. Contracts see the rows of both once these are applied.
 #[derive(Drop)]
 pub struct Turns {
-    latest: Behind,
-    older: Option<Behind>,
+    latest: Lagging,
+    older: Option<Lagging>,
 }
 
 impl Model for Turns {
@@ -104,7 +104,7 @@ impl Turns {
         let latest = Edition::copy(alloc, network)?;
         let edition = latest.share()?;
         let turns = Turns {
-            latest: Behind::at(alloc, latest),
+            latest: Lagging::at(alloc, latest),
             older: None,
         };
         Ok((turns, edition))
@@ -129,7 +129,7 @@ impl Turns {
         let next = next_edition(alloc, older, network)?;
         let edition = next.share()?;
         let turns = Turns {
-            latest: Behind::at(alloc, next),
+            latest: Lagging::at(alloc, next),
             older: Some(latest),
         };
         Ok((turns, edition))
@@ -138,7 +138,7 @@ impl Turns {
     /// With one more operation that is due to both; none if memory is short, or if more are due than the current map
     /// has channels: then a copy is faster.
     pub(crate) fn noted(self, alloc: Global, op: &Op, channels: usize) -> Option<Turns>
-        ensures { IfSome result (λ turns. turns ≡ rows_behind self (op.now ∷ [])) }
+        ensures { IfSome result (λ turns. turns ≡ rows_after self (op.now ∷ [])) }
     {
         let Turns { latest, older } = self;
         if channels < latest.due.len() {

@@ -48,14 +48,14 @@ is_all_four (sigs.AllFour right) = right
 is_all_four _ = false
 
 -- the rows of messages with these bytes
-abbrev pub channel_of : Announce → ℕ → List ℕ → Checked
-channel_of m sat bytes = checked.Channel (record { message = m; sat = sat; raw = bytes })
+abbrev pub announced_channel : Announce → ℕ → List ℕ → Checked
+announced_channel m sat bytes = checked.Channel (record { message = m; sat = sat; raw = bytes })
 
-abbrev pub update_of : ChannelUpdate → Point → List ℕ → Checked
-update_of m signer bytes = checked.Update (record { message = m; raw = bytes }) signer
+abbrev pub signed_update : ChannelUpdate → Point → List ℕ → Checked
+signed_update m signer bytes = checked.Update (record { message = m; raw = bytes }) signer
 
-abbrev pub node_of : NodeAnnounce → List ℕ → Checked
-node_of m bytes = checked.Node (record { message = m; raw = bytes })
+abbrev pub announced_node : NodeAnnounce → List ℕ → Checked
+announced_node m bytes = checked.Node (record { message = m; raw = bytes })
 
 -- a channel_announcement: each line is the next refusal in the order
 unfoldable pub checked_announce : ChainHash → Announce → List ℕ → Evidence → Result Checked Refusal
@@ -65,7 +65,7 @@ checked_announce chain m bytes evidence = do
   node_order ← require (are_in_order m) refusals.NodeOrder
   sat ← capacity_of evidence.funding
   signed ← require (is_all_four evidence.sig) refusals.Signature
-  Ok (channel_of m sat bytes)
+  Ok (announced_channel m sat bytes)
 
 -- bit 1 of the message flags, dont_forward
 abbrev pub is_private : ChannelUpdate → Bool
@@ -82,7 +82,7 @@ checked_update chain m bytes evidence = do
   this_chain ← require (pointwise nat_eq m.chain_hash.0 chain.0) refusals.Chain
   public ← require (not (is_private m)) refusals.Private
   signer ← signer_of evidence.sig
-  Ok (update_of m signer bytes)
+  Ok (signed_update m signer bytes)
 
 -- a node_announcement
 unfoldable pub checked_node : NodeAnnounce → List ℕ → Evidence → Result Checked Refusal
@@ -90,7 +90,7 @@ checked_node m bytes evidence = do
   point ← require (is_lawful m.node_id) refusals.Point
   signer ← signer_of evidence.sig
   signed ← require (pointwise nat_eq signer.0 m.node_id.0) refusals.Signature
-  Ok (node_of m bytes)
+  Ok (announced_node m bytes)
 
 -- by type
 abbrev pub checked_message : ChainHash → Message → List ℕ → Evidence → Result Checked Refusal

@@ -10,12 +10,12 @@ use std::marker::Model;
 /// shared row is a single allocation. Contracts see the bytes.
 #[derive(Debug, Drop)]
 pub(crate) struct Raw<const N: usize> {
-    place: Place<N>,
+    storage: Storage<N>,
 }
 
 /// Where the bytes are.
 #[derive(Debug, Drop)]
-enum Place<const N: usize> {
+enum Storage<const N: usize> {
     /// In the value.
     Inline([u8; N]),
     /// In an allocation of their own.
@@ -28,7 +28,7 @@ impl<const N: usize> Model for Raw<N> {
 
     ghost Value = { List ℕ };
 
-    ghost view = { λ raw. bytes_in raw.place };
+    ghost view = { λ raw. bytes_in raw.storage };
 }
 
 impl<const N: usize> Raw<N> {
@@ -36,11 +36,11 @@ impl<const N: usize> Raw<N> {
     pub(crate) fn copied(alloc: Global, bytes: &[u8]) -> Result<Raw<N>, AllocError>
         ensures { IfOk result (λ raw. raw ≡ bytes.now) }
     {
-        let place = match inline(bytes) {
-            Some(array) => Place::Inline(array),
-            None => Place::Heap(Bytes::from_slice(alloc, bytes)?),
+        let storage = match inline(bytes) {
+            Some(array) => Storage::Inline(array),
+            None => Storage::Heap(Bytes::from_slice(alloc, bytes)?),
         };
-        Ok(Raw { place })
+        Ok(Raw { storage })
     }
 
     /// The bytes.
@@ -48,9 +48,9 @@ impl<const N: usize> Raw<N> {
     pub(crate) fn as_slice(&self) -> &[u8]
         ensures { result.now ≡ self.now }
     {
-        match &self.place {
-            Place::Inline(array) => array.as_slice(),
-            Place::Heap(bytes) => bytes.as_slice(),
+        match &self.storage {
+            Storage::Inline(array) => array.as_slice(),
+            Storage::Heap(bytes) => bytes.as_slice(),
         }
     }
 }

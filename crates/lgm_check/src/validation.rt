@@ -13,7 +13,7 @@ ghost use Rattle.lgm_check.specs.CheckedKind.{row_of, Fits};
 ghost use Rattle.lgm_check.specs.Accepted.{IsAccepted};
 ghost use Rattle.lgm_check.specs.Precheck.{require as requirement, has_lawful_points, are_in_order};
 ghost use Rattle.lgm_check.specs.Precheck.{capacity_of, is_all_four, is_private, signer_of};
-ghost use Rattle.lgm_check.specs.Precheck.{channel_of, update_of, node_of};
+ghost use Rattle.lgm_check.specs.Precheck.{announced_channel, signed_update, announced_node};
 ghost use Rattle.lgm_check.specs.Precheck.{checked_announce, checked_update, checked_node, checked_of};
 
 use crate::evidence::{Evidence, Funding, Sig};
@@ -77,7 +77,7 @@ fn is_all_four(sig: Sig) -> bool
 #[tactic(auto, unfolding(crate::specs::Precheck::checked_announce))]
 #[inline(always)]
 fn announce(chain: &ChainHash, message: &Announce, evidence: &Evidence) -> Result<u64, Refusal>
-    ensures { (bytes : List ℕ) → Sees (λ sat. channel_of message.now sat bytes) result
+    ensures { (bytes : List ℕ) → Sees (λ sat. announced_channel message.now sat bytes) result
         (checked_announce chain.now message.now bytes evidence.now) }
 {
     require(message.chain_hash == *chain, Refusal::Chain)?;
@@ -115,7 +115,7 @@ fn update<'a>(
     message: &ChannelUpdate,
     evidence: &'a Evidence,
 ) -> Result<Signer<'a>, Refusal>
-    ensures { (bytes : List ℕ) → Sees (λ signer. update_of message.now signer bytes) result
+    ensures { (bytes : List ℕ) → Sees (λ signer. signed_update message.now signer bytes) result
         (checked_update chain.now message.now bytes evidence.now) }
 {
     require(message.chain_hash == *chain, Refusal::Chain)?;
@@ -127,7 +127,7 @@ fn update<'a>(
 #[tactic(auto, unfolding(crate::specs::Precheck::checked_node))]
 #[inline(always)]
 fn node(message: &NodeAnnounce, evidence: &Evidence) -> Result<(), Refusal>
-    ensures { (bytes : List ℕ) → Sees (λ _. node_of message.now bytes) result
+    ensures { (bytes : List ℕ) → Sees (λ _. announced_node message.now bytes) result
         (checked_node message.now bytes evidence.now) }
 {
     require(message.node_id.lawful(), Refusal::Point)?;

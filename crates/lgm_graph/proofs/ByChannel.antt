@@ -16,7 +16,7 @@ use Rattle.lgm_store.proofs.ListLaws.{All-to}
 use Rattle.lgm_store.specs.inner.SameKeys.{same_id}
 use Rattle.lgm_graph.specs.Edges.{PointEdge, edge_on, edge_in}
 use Rattle.lgm_graph.specs.inner.Walk.{edges_of_channel}
-use Rattle.lgm_graph.proofs.Keeping.{less_lt, eqb_self, none_above}
+use Rattle.lgm_graph.proofs.KeptEdgeLaws.{less_lt, eqb_self, none_above}
 
 abbrev id_of : UpdateRow → ℕ
 id_of row = row.message.short_channel_id

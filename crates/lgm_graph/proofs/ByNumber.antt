@@ -1,7 +1,8 @@
 -- Lists by the numbers of points.
-use Rattle.std.proofs.Common.{◌≡◌, ℕ, ◌<◌, ◌≤◌, Bool, true, false, List, [], ◌∷◌, length, map, get_or, zero, suc, refl, sym, ap, Some, arith, true≢false}
+use Rattle.std.proofs.Common.{◌≡◌, ℕ, ◌<◌, ◌≤◌, true, false, List, [], ◌∷◌, length, map, get_or, zero, suc, refl, sym, ap, Some, arith, true≢false}
 use Rattle.std.specs.List.{slice_get}
 use Rattle.lgm_wire.specs.declared.point.Point.{Point}
+use Rattle.lgm_graph.specs.Graph.{GraphNode, bare_node}
 use Rattle.lgm_graph.specs.inner.Overlaying.{by_number}
 
 module _ {X : Type 0} where
@@ -25,8 +26,9 @@ module _ {X : Type 0} where
   by_is f F [] each = refl
   by_is f F (p ∷ ps) each = rw (each 0 p refl, by_is (λ n. f (suc n)) F ps (λ n q at. each (suc n) q at)) refl
 
--- what is so at a number has one
-pub within_by : (f : ℕ → Bool) (points : List Point) (n : ℕ) → get_or (by_number f points) n false ≡ true → n < length points
+-- a number at which a node takes payments has one
+pub within_by : (f : ℕ → GraphNode) (points : List Point) (n : ℕ) → (get_or (by_number f points) n (bare_node false)).accepts_payments ≡ true
+    → n < length points
 within_by f [] n is = absurd (true≢false (sym is))
 within_by f (p ∷ ps) zero is = omega arith
 within_by f (p ∷ ps) (suc n) is = let rest = within_by (λ m. f (suc m)) ps n is in omega (arith, rest)

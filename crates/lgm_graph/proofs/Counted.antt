@@ -1,43 +1,31 @@
 -- The edges of a view, node by node.
-use Rattle.std.proofs.Common.{◌≡◌, ℕ, ◌+◌, ◌-◌, ◌<◌, ◌≤◌, Bool, false, List, [], ◌∷◌, ◌++◌, length, drop}
+use Rattle.std.proofs.Common.{◌≡◌, ℕ, ◌+◌, ◌-◌, ◌<◌, ◌≤◌, false, List, [], ◌∷◌, ◌++◌, length, drop}
 use Rattle.std.proofs.Common.{get_or, zero, suc, refl, sym, ap, ◌∙◌, Some, None, arith, length-append}
-use Rattle.std.specs.Prelude.{if◌then◌else◌}
-use Rattle.std.specs.List.{flat_map, zip, slice_get}
+use Rattle.std.specs.List.{flat_map, slice_get}
 use Rattle.lgm_graph.specs.declared.edge.Edge.{Edge}
-use Rattle.lgm_graph.specs.Graph.{Graph, AreListed, edges, edges_into}
+use Rattle.lgm_graph.specs.Graph.{Graph, AreListed, bare_node, open_into, edges, edges_into}
 
 -- the edges into the nodes from a number on
 abbrev pub edges_from : Graph → ℕ → List Edge
-edges_from graph number = flat_map (λ node. if node.0 then node.1 else []) (drop number (zip graph.accepts_payments graph.into))
+edges_from graph number = flat_map open_into (drop number graph.nodes)
 
-zip_drop : {X : Type 0} (ts : List Bool) (ls : List (List X)) (n : ℕ) → n < length ts → length ls ≡ length ts
-    → drop n (zip ts ls) ≡ (get_or ts n false, get_or ls n []) ∷ drop (suc n) (zip ts ls)
-zip_drop [] ls n lt long = absurd (omega (arith, lt))
-zip_drop (t ∷ ts) [] n lt long = absurd (omega (arith, long))
-zip_drop (t ∷ ts) (l ∷ ls) zero lt long = refl
-zip_drop (t ∷ ts) (l ∷ ls) (suc n) lt long = zip_drop ts ls n (omega (arith, lt)) (omega (arith, long))
+drop_next : {X : Type 0} (xs : List X) (n : ℕ) (d : X) → n < length xs → drop n xs ≡ get_or xs n d ∷ drop (suc n) xs
+drop_next [] n d lt = absurd (omega (arith, lt))
+drop_next (x ∷ xs) zero d lt = refl
+drop_next (x ∷ xs) (suc n) d lt = drop_next xs n d (omega (arith, lt))
 
-zip_done : {X : Type 0} (ts : List Bool) (ls : List (List X)) (n : ℕ) → length ts ≤ n → drop n (zip ts ls) ≡ []
-zip_done [] ls zero le = refl
-zip_done [] ls (suc n) le = refl
-zip_done (t ∷ ts) ls zero le = absurd (omega (arith, le))
-zip_done (t ∷ ts) [] (suc n) le = refl
-zip_done (t ∷ ts) (l ∷ ls) (suc n) le = zip_done ts ls n (omega (arith, le))
+drop_done : {X : Type 0} (xs : List X) (n : ℕ) → length xs ≤ n → drop n xs ≡ []
+drop_done [] zero le = refl
+drop_done [] (suc n) le = refl
+drop_done (x ∷ xs) zero le = absurd (omega (arith, le))
+drop_done (x ∷ xs) (suc n) le = drop_done xs n (omega (arith, le))
 
 module _ (graph : Graph) (listed : AreListed graph) where
   pub edges_next : (n : ℕ) → n < length graph.points → edges_from graph n ≡ edges_into graph n ++ edges_from graph (suc n)
-  edges_next n lt =
-      let long = listed.long in
-      let wide = listed.wide in
-      let within : n < length graph.accepts_payments = omega (arith, lt, long) in
-      let same : length graph.into ≡ length graph.accepts_payments = omega (arith, long, wide) in
-      ap (flat_map (λ node. if node.0 then node.1 else [])) (zip_drop graph.accepts_payments graph.into n within same)
+  edges_next n lt = let long = listed.long in ap (flat_map open_into) (drop_next graph.nodes n (bare_node false) (omega (arith, lt, long)))
 
   pub edges_done : (n : ℕ) → length graph.points ≤ n → edges_from graph n ≡ []
-  edges_done n le =
-      let long = listed.long in
-      ap (flat_map (λ node. if node.0 then node.1 else []))
-      (zip_done graph.accepts_payments graph.into n (omega (arith, le, long)))
+  edges_done n le = let long = listed.long in ap (flat_map open_into) (drop_done graph.nodes n (omega (arith, le, long)))
 
 module _ {X : Type 0} where
   pub get_left : (xs ys : List X) (i : ℕ) (d : X) → i < length xs → slice_get (xs ++ ys) i ≡ Some (get_or xs i d)

@@ -15,7 +15,7 @@ use Rattle.lgm_graph.specs.Overlay.{extra_edge}
 use Rattle.lgm_graph.specs.Graph.{number_of, IsNumbered, IsJoined}
 use Rattle.lgm_graph.specs.inner.Walk.{KeepsNumbers}
 use Rattle.lgm_graph.proofs.Counted.{get_right}
-use Rattle.lgm_graph.proofs.Numbering.{any_not, position_none}
+use Rattle.lgm_graph.proofs.NewNumberLaws.{any_not, position_none}
 use Rattle.lgm_graph.proofs.Numbers.{number_some}
 use Rattle.lgm_graph.proofs.ListedEdgeLaws.{numbered_append, numbered_last, turned}
 

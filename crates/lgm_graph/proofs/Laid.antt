@@ -12,13 +12,13 @@ use Rattle.lgm_store.proofs.ListLaws.{All-filter, All-to, All-append}
 use Rattle.lgm_store.proofs.Points.{is_point-self}
 use Rattle.lgm_graph.specs.declared.edge.Edge.{Edge}
 use Rattle.lgm_graph.specs.Edges.{PointEdge}
-use Rattle.lgm_graph.specs.Graph.{number_of, IsNumbered, IsJoined, numbered_in}
+use Rattle.lgm_graph.specs.Graph.{GraphNode, Shows, bare_node, edges_with, node_with, number_of, IsNumbered, IsJoined, numbered_in}
 use Rattle.lgm_graph.specs.Overlay.{OverlayParts, is_named, is_used, with_first, limited}
-use Rattle.lgm_graph.specs.inner.Overlaying.{Touched, IsSaid, AreSaid, sayings_of, edges_with, has_id, laid_by, said_of}
+use Rattle.lgm_graph.specs.inner.Overlaying.{Touched, IsSaid, AreSaid, sayings_of, has_id, laid_by, said_of}
 use Rattle.lgm_graph.proofs.Further.{number_left, slice_left}
-use Rattle.lgm_graph.proofs.Numbering.{number_at}
+use Rattle.lgm_graph.proofs.NewNumberLaws.{number_at}
 use Rattle.lgm_graph.proofs.Places.{get_map}
-use Rattle.lgm_graph.proofs.Saying.{slice_number, named_said}
+use Rattle.lgm_graph.proofs.SayingLaws.{slice_number, named_said}
 use Rattle.lgm_graph.proofs.ListedEdgeLaws.{map_alike, none_at}
 
 -- ---- what is said of the node that an edge leaves
@@ -108,23 +108,27 @@ module _ (points added : List Point) (distinct : IsDistinct is_point (points ++ 
       λ p there. omega (arith, number_left points added p there, there, length-append points added) in
       All-to (IsJoined points) (IsJoined (points ++ added)) edges (λ e both. (left e.from both.0, left e.to both.1)) all
 
-  pub base_at : (end : PointEdge → Point) (edges : List PointEdge) → AllByRecursion (IsJoined points) edges → AllByRecursion (λ e. IsNumbered points (end e)) edges
-      → (lists : List (List Edge)) → lists ≡ map (edges_with end points edges) points
-      → (n : ℕ) (p : Point) → slice_get (points ++ added) n ≡ Some p → get_or lists n [] ≡ edges_with end (points ++ added) edges p
-  base_at end edges joined ends lists is n p at = by (ltb n (length points)) refl
+  -- the edges of a node of the view, at its number
+  pub base_at : (accepts : Point → Bool) (end : PointEdge → Point) (edges : List PointEdge) (nodes : List GraphNode) → Shows accepts edges points nodes
+      → ((e : PointEdge) → IsJoined points e → IsNumbered points (end e))
+      → (f : GraphNode → List Edge) → f (bare_node false) ≡ [] → ((p : Point) → f (node_with accepts points edges p) ≡ edges_with end points edges p)
+      → (n : ℕ) (p : Point) → slice_get (points ++ added) n ≡ Some p → f (get_or nodes n (bare_node false)) ≡ edges_with end (points ++ added) edges p
+  base_at accepts end edges nodes shows ends f none is n p at = by (ltb n (length points)) refl
     where
-      by : (b : Bool) → ltb n (length points) ≡ b → get_or lists n [] ≡ edges_with end (points ++ added) edges p
+      by : (b : Bool) → ltb n (length points) ≡ b → f (get_or nodes n (bare_node false)) ≡ edges_with end (points ++ added) edges p
       by true e =
           let lt = ltb-true n (length points) e in
           let here : get_or points n p ≡ p = get_or_from_slice_get points n p p (sym (slice_left points added n lt) ∙ at) in
-          ap (λ (ls : List (List Edge)). get_or ls n []) is
-          ∙ get_map (edges_with end points edges) points n p [] lt ∙ ap (edges_with end points edges) here
+          ap f (ap (λ (ns : List GraphNode). get_or ns n (bare_node false)) shows.nodes_are
+          ∙ get_map (node_with accepts points edges) points n p (bare_node false) lt ∙ ap (node_with accepts points edges) here)
+          ∙ is p
           ∙ map_alike (numbered_in points) (numbered_in (points ++ added)) (filter (λ e. is_point p (end e)) edges)
           (All-filter (λ e. numbered_in points e ≡ numbered_in (points ++ added) e) (λ e. is_point p (end e)) edges
           (All-to (IsJoined points) (λ e. numbered_in points e ≡ numbered_in (points ++ added) e) edges
-          (λ e both. rw (number_left points added e.from both.0, number_left points added e.to both.1) refl) joined))
+          (λ e both. rw (number_left points added e.from both.0, number_left points added e.to both.1) refl) shows.joined))
       by false e =
           let le = ltb-false n (length points) e in
-          let past : length lists ≤ n = omega (arith, le, ap length is, length-map points (edges_with end points edges)) in
-          get_or_past lists n [] past
-          ∙ ap (map (numbered_in (points ++ added))) (sym (none_at end points p edges (behind n p at le) ends))
+          let past : length nodes ≤ n = omega (arith, le, ap length shows.nodes_are, length-map points (node_with accepts points edges)) in
+          ap f (get_or_past nodes n (bare_node false) past) ∙ none
+          ∙ ap (map (numbered_in (points ++ added))) (sym (none_at end points p edges (behind n p at le)
+          (All-to (IsJoined points) (λ e. IsNumbered points (end e)) edges ends shows.joined)))

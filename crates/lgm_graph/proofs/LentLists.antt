@@ -6,9 +6,8 @@ use Rattle.std.proofs.lemmas.List.{length-map}
 use Rattle.std.proofs.lemmas.Bool.{ltb-true, ltb-false}
 use Rattle.std.proofs.lemmas.Option.{unwrap_or-slice_get, slice_get_past}
 use Rattle.lgm_graph.specs.declared.edge.Edge.{Edge}
-use Rattle.lgm_graph.specs.declared.nodes.Edges.{Edges}
-use Rattle.lgm_graph.specs.inner.Overlaying.{list_or}
-use Rattle.lgm_graph.specs.inner.Sound.{edges_in}
+use Rattle.lgm_graph.specs.declared.overlay_view.lists.Edges.{Edges}
+use Rattle.lgm_graph.specs.inner.Overlaying.{edges_in, list_or}
 use Rattle.lgm_graph.proofs.Places.{get_map}
 
 pub own_list : (own : List Edges) (place : ℕ) (lent : List Edge) (list : Edges) → (place ≡ 0 → ⊥) → true ≡ nat_lt (place - 1) (length own)

@@ -1,24 +1,24 @@
 pub mod Members
 mod Cuts
-mod Carrying
+mod CarriedEdgeLaws
 pub mod Numbers
 mod ByChannel
 mod Places
 mod ListedEdgeLaws
-mod Making
-mod Numbering
+mod PushedEdgeLaws
+mod NewNumberLaws
 mod Walked
-mod Writing
-mod Limiting
-mod Listing
-mod Flags
-mod Updating
+mod WrittenEdgeLaws
+mod LimitLaws
+mod NodeListLaws
+mod ChangeLaws
+mod UpdateLaws
 mod AnnouncedNodeLaws
-mod Keeping
-mod Closing
-mod Adding
-mod Banning
-mod Parting
+mod KeptEdgeLaws
+mod CloseLaws
+mod NewChannelLaws
+mod BannedEdgeLaws
+mod BanLaws
 mod Once
 pub mod ViewEdgeLaws
 mod Counted
@@ -27,7 +27,7 @@ pub mod OverlayLaws
 mod Further
 mod ByNumber
 mod LentLists
-mod Touching
-mod Saying
+mod TouchedNodeLaws
+mod SayingLaws
 mod Laid
-mod Covering
+mod OverlayViewLaws

@@ -1,27 +1,24 @@
 -- Edges that are listed at their nodes, as they change.
-use Rattle.std.proofs.Common.{◌≡◌, ◌≢◌, inl, inr, ℕ, ◌+◌, ◌<◌, Bool, true, false, List, [], ◌∷◌, ◌++◌, length, map, set, get_or}
+use Rattle.std.proofs.Common.{◌≡◌, ◌≢◌, inl, inr, ℕ, ◌+◌, ◌<◌, Bool, true, false, List, [], ◌∷◌, ◌++◌, length, map}
 use Rattle.std.proofs.Common.{suc, refl, sym, ap, ◌∙◌, Option, Some, None, option_to_list, arith, true≢false, length-append}
 use Rattle.std.specs.Option.{option_map}
-use Rattle.std.specs.List.{AllByRecursion, IsDistinct, filter}
+use Rattle.std.specs.List.{AllByRecursion, filter}
 use Rattle.std.specs.declared.cmp.Ordering.{Ordering}
 use Rattle.std.specs.declared.cmp.Ordering.TheVariants.{Equal, Greater}
 use Rattle.std.specs.Ordering.{is_lt, is_gt}
 use Rattle.std.proofs.lemmas.Bool.{cases_Bool, false_from_ne_true}
 use Rattle.std.proofs.lemmas.List.{map-append, append-nil}
 use Rattle.std.proofs.lemmas.List.Elements.{filter-append}
-use Rattle.std.proofs.lemmas.Map.Keys.{IsDistinct-head, IsDistinct-tail}
 use Rattle.lgm_wire.specs.declared.point.Point.{Point}
 use Rattle.lgm_store.specs.Rows.{is_point}
-use Rattle.lgm_store.proofs.ListLaws.{All-append, All-filter, All-to}
+use Rattle.lgm_store.proofs.ListLaws.{All-filter, All-to}
 use Rattle.lgm_store.proofs.Points.{same_point, is_point-self}
 use Rattle.lgm_graph.specs.Edges.{PointEdge}
 use Rattle.lgm_graph.specs.declared.edge.Edge.{Edge}
-use Rattle.lgm_graph.specs.Graph.{number_of, IsNumbered, IsJoined, numbered_in, edges_by, Shows}
+use Rattle.lgm_graph.specs.Graph.{GraphNode, Shows, bare_node, edges_with, node_with, number_of, IsNumbered, IsJoined, numbered_in}
 use Rattle.lgm_graph.specs.inner.Lists.{to_key, edge_key, IsCut, put_at}
 use Rattle.lgm_graph.specs.inner.Walk.{KeepsNumbers}
-use Rattle.lgm_graph.proofs.Carrying.{IsCut-filter, put_at-none, option_filter, filter-put}
-use Rattle.lgm_graph.proofs.Numbers.{get_number}
-use Rattle.lgm_graph.proofs.Places.{get_map}
+use Rattle.lgm_graph.proofs.CarriedEdgeLaws.{IsCut-filter, put_at-none, option_filter, filter-put}
 
 -- ---- lists
 
@@ -62,57 +59,26 @@ pub turned : (p q : Point) → is_point p q ≡ false → is_point q p ≡ false
 turned p q apart = false_from_ne_true (is_point q p)
     (λ e. true≢false (sym (ap (is_point p) (same_point q p e) ∙ is_point-self p) ∙ apart))
 
--- ---- one element
+-- ---- the edges of one point change
 
--- one element of a map over distinct points changes
-pub map_at : {Y : Type 0} (F G : Point → Y) (points : List Point) (p : Point) → IsDistinct is_point points → number_of points p < length points
-    → ((q : Point) → is_point p q ≡ false → G q ≡ F q) → set (map F points) (number_of points p) (G p) ≡ map G points
-map_at F G [] p distinct there other = absurd (omega (arith, there))
-map_at F G (q ∷ qs) p distinct there other = elim (cases_Bool (is_point p q)) [
-  | inl e ↦ let same : p ≡ q = same_point p q e in rw (e, same, rest same) refl
-  | inr e ↦
-      let next : 1 + number_of qs p ≡ suc (number_of qs p) = omega arith in
-      let fits : suc (number_of qs p) < suc (length qs) = rw (e, next) at there in
-      rw (e, next, sym (other q e))
-      (ap (λ l. G q ∷ l) (map_at F G qs p (IsDistinct-tail is_point q qs distinct) (omega (arith, fits)) other))
-]
-  where
-    rest : p ≡ q → map F qs ≡ map G qs
-    rest same =
-        map_alike F G qs (All-to _ _ qs (λ r apart. sym (other r (ap (λ s. is_point s r) same ∙ apart)))
-        (IsDistinct-head is_point q qs distinct))
+-- at one point the edges change so, and at no other one
+abbrev pub IsChangedAt : (PointEdge → Point) → List Point → List PointEdge → List PointEdge → (List Edge → List Edge) → Point → Type 0
+IsChangedAt end points edges more change point =
+    (edges_with end points more point ≡ change (edges_with end points edges point))
+    × ((q : Point) → is_point point q ≡ false → edges_with end points more q ≡ edges_with end points edges q)
 
 module _ (end : PointEdge → Point) (points : List Point) where
-  -- the edges of a point
-  abbrev pub edges_at : List PointEdge → Point → List Edge
-  edges_at edges point = map (numbered_in points) (filter (λ edge. is_point point (end edge)) edges)
-
-  pub get_edges : (edges : List PointEdge) (p : Point) → IsNumbered points p
-      → get_or (edges_by end points edges) (number_of points p) [] ≡ edges_at edges p
-  get_edges edges p there = get_map (edges_at edges) points (number_of points p) p [] there ∙ ap (edges_at edges) (get_number points p p there)
-
-  -- the edges change at one point
-  pub edges_by-set : (edges new : List PointEdge) (p : Point) → IsDistinct is_point points → IsNumbered points p
-      → ((q : Point) → is_point p q ≡ false → edges_at new q ≡ edges_at edges q)
-      → set (edges_by end points edges) (number_of points p) (edges_at new p) ≡ edges_by end points new
-  edges_by-set edges new p distinct there other = map_at (edges_at edges) (edges_at new) points p distinct there other
-
-  -- ---- a further edge
-
-  pub edges_push : (edges : List PointEdge) (edge : PointEdge) → IsDistinct is_point points → IsNumbered points (end edge)
-      → set (edges_by end points edges) (number_of points (end edge))
-      (get_or (edges_by end points edges) (number_of points (end edge)) [] ++ numbered_in points edge ∷ [])
-      ≡ edges_by end points (edges ++ edge ∷ [])
-  edges_push edges edge distinct there =
-      ap (set (edges_by end points edges) (number_of points (end edge))) (rw (get_edges edges (end edge) there) (sym own))
-      ∙ edges_by-set edges (edges ++ edge ∷ []) (end edge) distinct there other
+  -- a further edge
+  pub edges_push : (edges : List PointEdge) (edge : PointEdge)
+      → IsChangedAt end points edges (edges ++ edge ∷ []) (λ listed. listed ++ numbered_in points edge ∷ []) (end edge)
+  edges_push edges edge = (own, other)
     where
-      own : edges_at (edges ++ edge ∷ []) (end edge) ≡ edges_at edges (end edge) ++ numbered_in points edge ∷ []
+      own : edges_with end points (edges ++ edge ∷ []) (end edge) ≡ edges_with end points edges (end edge) ++ numbered_in points edge ∷ []
       own =
           rw (filter-append (λ e. is_point (end edge) (end e)) edges (edge ∷ []), is_point-self (end edge))
           (map-append (numbered_in points) (filter (λ e. is_point (end edge) (end e)) edges) (edge ∷ []))
 
-      other : (q : Point) → is_point (end edge) q ≡ false → edges_at (edges ++ edge ∷ []) q ≡ edges_at edges q
+      other : (q : Point) → is_point (end edge) q ≡ false → edges_with end points (edges ++ edge ∷ []) q ≡ edges_with end points edges q
       other q apart =
           rw (
             filter-append (λ e. is_point q (end e)) edges (edge ∷ []),
@@ -125,7 +91,7 @@ module _ (end : PointEdge → Point) (points : List Point) where
   module _ (id : ℕ) (second : Bool) (edges : List PointEdge) (edge : Option PointEdge) (target : Point) (cut : IsCut (to_key id second) edges)
       (all : AllByRecursion (λ e. to_key id second e ≡ Equal → end e ≡ target) edges) (own : (e : PointEdge) → edge ≡ Some e → end e ≡ target) where
     -- the edges of a point are in order
-    pub edges_cut : (p : Point) → IsCut (edge_key id second) (edges_at edges p)
+    pub edges_cut : (p : Point) → IsCut (edge_key id second) (edges_with end points edges p)
     edges_cut p = IsCut-edges (filter (λ e. is_point p (end e)) edges) (IsCut-filter (to_key id second) (λ e. is_point p (end e)) edges cut)
       where
         above : (es : List PointEdge) → AllByRecursion (λ e. to_key id second e ≡ Greater) es
@@ -138,13 +104,9 @@ module _ (end : PointEdge → Point) (points : List Point) where
         IsCut-edges (e ∷ es) (inl below) = inl (below.0, IsCut-edges es below.1)
         IsCut-edges (e ∷ es) (inr more) = inr (more.0, above es more.1)
 
-    pub edges_put : IsDistinct is_point points → IsNumbered points target
-        → set (edges_by end points edges) (number_of points target) (put_at (edge_key id second)
-        (get_or (edges_by end points edges) (number_of points target) []) (option_map (numbered_in points) edge))
-        ≡ edges_by end points (put_at (to_key id second) edges edge)
-    edges_put distinct there =
-        ap (set (edges_by end points edges) (number_of points target)) (rw (get_edges edges target there) (sym at_target))
-        ∙ edges_by-set edges (put_at (to_key id second) edges edge) target distinct there other
+    pub edges_put : IsChangedAt end points edges (put_at (to_key id second) edges edge)
+        (λ listed. put_at (edge_key id second) listed (option_map (numbered_in points) edge)) target
+    edges_put = (at_target, other)
       where
         test : Point → PointEdge → Bool
         test = λ p e. is_point p (end e)
@@ -153,8 +115,8 @@ module _ (end : PointEdge → Point) (points : List Point) where
         stays None is = refl
         stays (Some e) is = let self : is_point target (end e) ≡ true = ap (is_point target) (own e is) ∙ is_point-self target in rw self refl
 
-        at_target : edges_at (put_at (to_key id second) edges edge) target
-            ≡ put_at (edge_key id second) (edges_at edges target) (option_map (numbered_in points) edge)
+        at_target : edges_with end points (put_at (to_key id second) edges edge) target
+            ≡ put_at (edge_key id second) (edges_with end points edges target) (option_map (numbered_in points) edge)
         at_target = ap (map (numbered_in points)) (filter-put (to_key id second) (λ e. is_point target (end e)) edges edge
             ∙ ap (put_at (to_key id second) (filter (λ e. is_point target (end e)) edges)) (stays edge refl))
             ∙ sym (put_at-map (numbered_in points) (edge_key id second) (filter (λ e. is_point target (end e)) edges) edge)
@@ -173,7 +135,7 @@ module _ (end : PointEdge → Point) (points : List Point) where
         apart p other = All-to (λ e. (to_key id second e ≡ Equal → end e ≡ target) × (is_point p (end e) ≡ true)) (λ e. to_key id second e ≢ Equal) _
             (λ e is k. never p other e (is.0 k) is.1) (passing (λ e. to_key id second e ≡ Equal → end e ≡ target) (λ e. is_point p (end e)) edges all)
 
-        other : (q : Point) → is_point target q ≡ false → edges_at (put_at (to_key id second) edges edge) q ≡ edges_at edges q
+        other : (q : Point) → is_point target q ≡ false → edges_with end points (put_at (to_key id second) edges edge) q ≡ edges_with end points edges q
         other q away = ap (map (numbered_in points)) (filter-put (to_key id second) (λ e. is_point q (end e)) edges edge
             ∙ ap (put_at (to_key id second) (filter (λ e. is_point q (end e)) edges)) (gone q away edge refl)
             ∙ put_at-none (to_key id second) (filter (λ e. is_point q (end e)) edges)
@@ -220,48 +182,32 @@ none_at end points p (e ∷ es) new all = elim (cases_Bool (is_point p (end e)))
   | inr is ↦ rw is (none_at end points p es new all.1)
 ]
 
-pub edges_more : (end : PointEdge → Point) (points : List Point) (p : Point) (edges : List PointEdge)
-    → (IsNumbered points p → ⊥) → AllByRecursion (λ e. IsNumbered points (end e)) edges
-    → AllByRecursion (IsJoined points) edges → edges_by end points edges ++ [] ∷ [] ≡ edges_by end (points ++ p ∷ []) edges
-edges_more end points p edges new all joined =
-    sym (map-append (edges_at end (points ++ p ∷ []) edges) points (p ∷ [])
-    ∙ rw (
-      none_at end points p edges new all,
-      map_alike (edges_at end (points ++ p ∷ []) edges) (edges_at end points edges) points (each points),
-    ) refl)
-  where
-    each : (qs : List Point) → AllByRecursion (λ q. edges_at end (points ++ p ∷ []) edges q ≡ edges_at end points edges q) qs
-    each [] = tt
-    each (q ∷ qs) = (
-      sym (map_alike (numbered_in points) (numbered_in (points ++ p ∷ [])) (filter (λ e. is_point q (end e)) edges)
-          (All-filter (λ e. numbered_in points e ≡ numbered_in (points ++ p ∷ []) e) (λ e. is_point q (end e)) edges
-          (edges_kept points (points ++ p ∷ []) edges (numbered_append points p) joined))),
-      each qs,
-    )
+-- the edges of each point stay, and the further point has none
+edges_more : (end : PointEdge → Point) (points : List Point) (p : Point) (edges : List PointEdge)
+    → AllByRecursion (IsJoined points) edges → (q : Point) → edges_with end points edges q ≡ edges_with end (points ++ p ∷ []) edges q
+edges_more end points p edges joined q =
+    map_alike (numbered_in points) (numbered_in (points ++ p ∷ [])) (filter (λ e. is_point q (end e)) edges)
+    (All-filter (λ e. numbered_in points e ≡ numbered_in (points ++ p ∷ []) e) (λ e. is_point q (end e)) edges
+    (edges_kept points (points ++ p ∷ []) edges (numbered_append points p) joined))
 
-pub shows_more : (edges : List PointEdge) (points : List Point) (into out : List (List Edge)) (p : Point)
-    → (IsNumbered points p → ⊥) → Shows edges points into out
-    → Shows edges (points ++ p ∷ []) (into ++ [] ∷ []) (out ++ [] ∷ [])
-shows_more edges points into out p new shows = record {
+pub shows_more : (accepts : Point → Bool) (edges : List PointEdge) (points : List Point) (nodes : List GraphNode) (p : Point)
+    → (IsNumbered points p → ⊥) → Shows accepts edges points nodes
+    → Shows accepts edges (points ++ p ∷ []) (nodes ++ bare_node (accepts p) ∷ [])
+shows_more accepts edges points nodes p new shows = record {
   joined = All-to (IsJoined points) (IsJoined (points ++ p ∷ [])) edges
       (λ e both. ((numbered_append points p e.from both.0).1, (numbered_append points p e.to both.1).1)) shows.joined;
-  into_is =
-      ap (λ ls. ls ++ [] ∷ []) shows.into_is ∙ edges_more (λ e. e.to) points p edges new (All-to
-      (IsJoined points) (λ e. IsNumbered points e.to) edges (λ e both. both.1) shows.joined) shows.joined;
-  out_is =
-      ap (λ ls. ls ++ [] ∷ []) shows.out_is ∙ edges_more (λ e. e.from) points p edges new (All-to
-      (IsJoined points) (λ e. IsNumbered points e.from) edges (λ e both. both.0) shows.joined) shows.joined;
+  nodes_are = rw (
+    shows.nodes_are,
+    map-append (node_with accepts (points ++ p ∷ []) edges) points (p ∷ []),
+    none_at (λ e. e.to) points p edges new (All-to (IsJoined points) (λ e. IsNumbered points e.to) edges (λ e both. both.1) shows.joined),
+    none_at (λ e. e.from) points p edges new (All-to (IsJoined points) (λ e. IsNumbered points e.from) edges (λ e both. both.0) shows.joined),
+    ap (λ (F : Point → GraphNode). map F points) stays,
+  ) refl;
 }
-
--- ---- the whole
-
-pub shows_push : (edges : List PointEdge) (points : List Point) (into out : List (List Edge)) (edge : PointEdge)
-    → IsDistinct is_point points → IsJoined points edge → Shows edges points into out
-    → Shows (edges ++ edge ∷ []) points
-    (set into (number_of points edge.to) (get_or into (number_of points edge.to) [] ++ numbered_in points edge ∷ []))
-    (set out (number_of points edge.from) (get_or out (number_of points edge.from) [] ++ numbered_in points edge ∷ []))
-shows_push edges points into out edge distinct both shows = record {
-  joined = All-append (IsJoined points) edges (edge ∷ []) shows.joined (both, tt);
-  into_is = rw (shows.into_is) (edges_push (λ e. e.to) points edges edge distinct both.1);
-  out_is = rw (shows.out_is) (edges_push (λ e. e.from) points edges edge distinct both.0);
-}
+  where
+    stays : node_with accepts points edges ≡ node_with accepts (points ++ p ∷ []) edges
+    stays = λ i q. record {
+      accepts_payments = accepts q;
+      into = edges_more (λ e. e.to) points p edges shows.joined q i;
+      out = edges_more (λ e. e.from) points p edges shows.joined q i;
+    }

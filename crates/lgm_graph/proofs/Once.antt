@@ -1,7 +1,7 @@
 -- A view of rows has each of their edges once.
 use Rattle.std.proofs.Common.{◌≡◌, Bool, true, false, cond, not, ◌||◌, List, [], ◌∷◌, ◌++◌, map}
 use Rattle.std.proofs.Common.{refl, sym, ap, subst, ◌∙◌, ◌<◌, ◌+◌, length, arith, true≢false}
-use Rattle.std.specs.Prelude.{if◌then◌else◌, flat_map, zip}
+use Rattle.std.specs.Prelude.{if◌then◌else◌, flat_map}
 use Rattle.std.specs.List.{AllByRecursion, IsDistinct, filter, list_any}
 use Rattle.std.specs.List.Sorted.{IsPermutation}
 use Rattle.std.proofs.lemmas.List.{map-append}
@@ -11,11 +11,9 @@ use Rattle.lgm_wire.specs.declared.point.Point.{Point}
 use Rattle.lgm_store.specs.Rows.{Rows, is_point}
 use Rattle.lgm_store.proofs.ListLaws.{All-filter, All-to}
 use Rattle.lgm_store.proofs.Points.{same_point, is_point-self}
-use Rattle.lgm_graph.specs.declared.edge.Edge.{Edge}
 use Rattle.lgm_graph.specs.Edges.{PointEdge, carrying, edges_of, takes_payments}
-use Rattle.lgm_graph.specs.Graph.{Graph, Shows, IsGraphOf, IsJoined, IsNumbered, number_of, numbered_in, edge_between, point_edges}
-use Rattle.lgm_graph.proofs.ListedEdgeLaws.{edges_at}
-use Rattle.lgm_graph.proofs.Listing.{back_again}
+use Rattle.lgm_graph.specs.Graph.{Graph, GraphNode, Shows, IsGraphOf, IsJoined, IsNumbered, number_of, numbered_in, edge_between, edges_with, node_with, open_into, point_edges}
+use Rattle.lgm_graph.proofs.NodeListLaws.{back_again}
 
 -- those that lead to each of the points, one point after the other
 abbrev buffered : List Point → List PointEdge → List PointEdge
@@ -92,16 +90,16 @@ numbered_among (q ∷ qs) p there = by (numbered_among qs p) (is_point p q) refl
 
 -- a graph shows these edges, and each that leads to a node that takes payments is listed there once
 module _ (takes : Point → Bool) (listed : List PointEdge) (graph : Graph) (distinct : IsDistinct is_point graph.points)
-    (accepts_is : graph.accepts_payments ≡ map takes graph.points) (shows : Shows listed graph.points graph.into graph.out) where
+    (shows : Shows takes listed graph.points graph.nodes) where
   -- the edges into one node
   shown_at : (p : Point) → map (edge_between graph.points) (if takes p
-      then edges_at (λ e. e.to) graph.points listed p else [])
+      then edges_with (λ e. e.to) graph.points listed p else [])
       ≡ filter (λ e. is_point p e.to) (filter (λ e. takes e.to) listed)
   shown_at p = along listed shows.joined
     where
       along : (es : List PointEdge) → AllByRecursion (IsJoined graph.points) es
           → map (edge_between graph.points) (if takes p
-          then edges_at (λ e. e.to) graph.points es p else [])
+          then edges_with (λ e. e.to) graph.points es p else [])
           ≡ filter (λ e. is_point p e.to) (filter (λ e. takes e.to) es)
       along [] joined = none (takes p)
         where
@@ -125,7 +123,7 @@ module _ (takes : Point → Bool) (listed : List PointEdge) (graph : Graph) (dis
           by rest true b true t =
               let own : takes e.to ≡ true =
               ap (takes) (sym (same_point p e.to b)) ∙ t in
-              let back = back_again graph.points distinct listed shows.joined e joined.0 in
+              let back = back_again takes graph.points distinct listed graph.nodes shows e joined.0 in
               let rest' : map (edge_between graph.points) (map (numbered_in graph.points) into) ≡ filter (λ d. is_point p d.to) left = rw t at rest in
               rw (b, t, own, b) (ap (λ (d : PointEdge). d ∷ map (edge_between graph.points)
               (map (numbered_in graph.points) into)) back ∙ ap (λ (l : List PointEdge). e ∷ l) rest')
@@ -141,14 +139,11 @@ module _ (takes : Point → Bool) (listed : List PointEdge) (graph : Graph) (dis
               elsewhere true = rw b rest
               elsewhere false = rw b rest
 
-  edges_are : (ps : List Point) → map (edge_between graph.points) (flat_map (λ (node : Bool × List Edge). if node.0
-      then node.1 else []) (zip (map (takes) ps)
-      (map (edges_at (λ e. e.to) graph.points listed) ps)))
+  edges_are : (ps : List Point) → map (edge_between graph.points) (flat_map open_into (map (node_with takes graph.points listed) ps))
       ≡ buffered ps (filter (λ e. takes e.to) listed)
   edges_are [] = refl
   edges_are (p ∷ ps) =
-      map-append (edge_between graph.points) (if takes p
-      then edges_at (λ e. e.to) graph.points listed p else []) _
+      map-append (edge_between graph.points) (open_into (node_with takes graph.points listed p)) _
       ∙ rw (shown_at p, edges_are ps) refl
 
   pub shown_once : IsPermutation (filter (λ e. takes e.to) listed) (point_edges graph)
@@ -158,15 +153,9 @@ module _ (takes : Point → Bool) (listed : List PointEdge) (graph : Graph) (dis
       (All-to (IsJoined graph.points) (λ e. list_any (λ q. is_point q e.to) graph.points ≡ true)
       listed (λ e both. numbered_among graph.points e.to both.1) shows.joined) in
       let is : point_edges graph ≡ buffered graph.points (filter (λ e. takes e.to) listed) =
-      ap (λ (ts : List Bool). map (edge_between graph.points) (flat_map
-      (λ (node : Bool × List Edge). if node.0 then node.1 else []) (zip ts graph.into))) accepts_is
-      ∙ ap (λ (ls : List (List Edge)).
-      map (edge_between graph.points) (flat_map (λ (node : Bool × List Edge). if node.0 then node.1 else [])
-      (zip (map (takes) graph.points) ls))) shows.into_is
-      ∙ edges_are graph.points in
+      ap (λ (ns : List GraphNode). map (edge_between graph.points) (flat_map open_into ns)) shows.nodes_are ∙ edges_are graph.points in
       subst (IsPermutation (filter (λ e. takes e.to) listed)) (sym is) (gathered_once graph.points (filter (λ e. takes e.to) listed) distinct all)
 
 pub once : (rows : Rows) (graph : Graph) → IsDistinct is_point graph.points → IsGraphOf rows graph
     → IsPermutation (edges_of graph.known rows) (point_edges graph)
-once rows graph distinct beside =
-    shown_once (takes_payments graph.known rows.nodes) (carrying rows) graph distinct beside.accepts_payments beside.shows
+once rows graph distinct beside = shown_once (takes_payments graph.known rows.nodes) (carrying rows) graph distinct beside.shows

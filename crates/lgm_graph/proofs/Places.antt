@@ -1,9 +1,9 @@
--- One element of a list, and of a list of lists.
-use Rattle.std.proofs.Common.{◌≡◌, ℕ, ◌<◌, List, [], ◌∷◌, length, map, set, get_or, zero, suc, refl, sym, ap, ◌∙◌, arith}
+-- One element of a list, and one node of a graph.
+use Rattle.std.proofs.Common.{◌≡◌, ℕ, ◌<◌, List, [], ◌∷◌, length, map, set, get_or, false, zero, suc, refl, sym, ap, ◌∙◌, arith}
 use Rattle.std.proofs.lemmas.List.{map-set}
-use Rattle.lgm_graph.specs.declared.edge.Edge.{Edge}
-use Rattle.lgm_graph.specs.declared.nodes.Edges.{Edges}
-use Rattle.lgm_graph.specs.inner.Sound.{edges_in}
+use Rattle.lgm_graph.specs.declared.node.Node.{Node}
+use Rattle.lgm_graph.specs.Graph.{GraphNode, bare_node}
+use Rattle.lgm_graph.specs.inner.Sound.{node_in, change_at}
 
 -- the element at an index, through a map
 pub get_map : {X Y : Type 0} (f : X → Y) (xs : List X) (n : ℕ) (d : X) (e : Y) → n < length xs → get_or (map f xs) n e ≡ f (get_or xs n d)
@@ -16,16 +16,16 @@ set_same [] n d = refl
 set_same (x ∷ xs) zero d = refl
 set_same (x ∷ xs) (suc n) d = ap (λ l. x ∷ l) (set_same xs n d)
 
-module _ (items : List Edges) (n : ℕ) (x w : Edges) (within : n < length items) (is : x ≡ get_or items n x) where
+module _ (items : List Node) (n : ℕ) (x w : Node) (within : n < length items) (is : x ≡ get_or items n x) where
   -- what is there
-  pub edges_there : edges_in x ≡ get_or (map edges_in items) n []
-  edges_there = ap edges_in is ∙ sym (get_map edges_in items n x [] within)
+  pub node_there : node_in x ≡ get_or (map node_in items) n (bare_node false)
+  node_there = ap node_in is ∙ sym (get_map node_in items n x (bare_node false) within)
 
-  -- the edges change
-  pub edges_edit : (g : List Edge → List Edge) → edges_in w ≡ g (edges_in x)
-      → map edges_in (set items n w) ≡ set (map edges_in items) n (g (get_or (map edges_in items) n []))
-  edges_edit g edit = map-set edges_in items n w ∙ ap (set (map edges_in items) n) (edit ∙ ap g edges_there)
+  -- the node changes
+  pub node_edit : (g : GraphNode → GraphNode) → node_in w ≡ g (node_in x)
+      → map node_in (set items n w) ≡ change_at n g (map node_in items)
+  node_edit g edit = map-set node_in items n w ∙ ap (set (map node_in items) n) (edit ∙ ap g node_there)
 
   -- nothing visible changes
-  pub edges_alike : edges_in w ≡ edges_in x → map edges_in (set items n w) ≡ map edges_in items
-  edges_alike same = edges_edit (λ ls. ls) same ∙ set_same (map edges_in items) n []
+  pub node_alike : node_in w ≡ node_in x → map node_in (set items n w) ≡ map node_in items
+  node_alike same = node_edit (λ node. node) same ∙ set_same (map node_in items) n (bare_node false)

@@ -1,6 +1,6 @@
 -- A view of rows has exactly their edges.
 use Rattle.std.proofs.Common.{◌≡◌, ◌⊎◌, inl, inr, ◌↔◌, ℕ, Bool, true, false, not, List, [], arith}
-use Rattle.std.proofs.Common.{◌∷◌, get_or, refl, sym, ap, subst, ◌∙◌, Option, Some, None}
+use Rattle.std.proofs.Common.{◌∷◌, refl, sym, ap, ◌∙◌, Option, Some, None}
 use Rattle.std.specs.List.{IsDistinct, Contains, filter_map, cons_option}
 use Rattle.std.specs.declared.cmp.Ordering.{Ordering}
 use Rattle.std.specs.declared.cmp.Ordering.TheVariants.{Less, Equal, Greater}
@@ -12,56 +12,53 @@ use Rattle.lgm_check.specs.declared.row.UpdateRow.{UpdateRow}
 use Rattle.lgm_store.specs.Rows.{Rows, IsAscending, is_point, is_second, channel_of}
 use Rattle.lgm_store.proofs.Lists.{direction_total}
 use Rattle.lgm_graph.specs.Edges.{PointEdge}
-use Rattle.lgm_graph.specs.declared.edge.Edge.{Edge}
 use Rattle.lgm_graph.specs.Edges.{edge_of, edge_in, end_of, carrying, edges_of, takes_payments, AreDirections, AreKeyed}
-use Rattle.lgm_graph.specs.Graph.{Graph, IsGraphOf, IsJoined, IsNumbered, number_of, numbered_in, edge_between, edges, point_edges}
+use Rattle.lgm_graph.specs.Graph.{Graph, GraphNode, IsGraphOf, bare_node, node_at, open_into, number_of, numbered_in, edge_between, edges, point_edges}
 use Rattle.lgm_graph.specs.inner.Lists.{to_key, IsCut}
-use Rattle.lgm_graph.proofs.Numbers.{get_number}
-use Rattle.lgm_graph.proofs.Places.{get_map}
-use Rattle.lgm_graph.proofs.Carrying.{IsOfChannel, carrying_of, carrying_cut, edge_in-some}
+use Rattle.lgm_graph.proofs.CarriedEdgeLaws.{IsOfChannel, carrying_of, carrying_cut, edge_in-some}
 use Rattle.lgm_graph.proofs.Members.{Among, Contains-Among, Among-Contains, Among-map, Among-mapped, Among-passes, Among-passed, All_among}
-use Rattle.lgm_graph.proofs.Listing.{zipped_in, zipped_out, edge_at, edge_there, back_again}
+use Rattle.lgm_graph.proofs.NodeListLaws.{flat_in, flat_out, opened, open_in, number_node, joined_one, edge_into, into_there, back_again}
 
 module _ (rows : Rows) (graph : Graph) (distinct : IsDistinct is_point graph.points) (beside : IsGraphOf rows graph) where
   abbrev takes_to : PointEdge → Bool
   takes_to edge = takes_payments graph.known rows.nodes edge.to
 
-  joined_one : (edge : PointEdge) → Among (carrying rows) edge → IsJoined graph.points edge
-  joined_one edge there = All_among (IsJoined graph.points) (carrying rows) edge beside.shows.joined there
-
-  -- whether a node takes payments is at its index
-  flag_at : (p : Point) → IsNumbered graph.points p → get_or graph.accepts_payments (number_of graph.points p) false ≡ takes_payments graph.known rows.nodes p
-  flag_at p there = ap (λ ts. get_or ts (number_of graph.points p) false) beside.accepts_payments
-      ∙ get_map (takes_payments graph.known rows.nodes) graph.points (number_of graph.points p) p false there
-      ∙ ap (takes_payments graph.known rows.nodes) (get_number graph.points p p there)
+  abbrev takes : Point → Bool
+  takes = takes_payments graph.known rows.nodes
 
   stored_numbered : (edge : PointEdge) → Among (edges_of graph.known rows) edge → Among (edges graph) (numbered_in graph.points edge)
   stored_numbered edge there =
       let passed = Among-passed takes_to (carrying rows) edge there in
-      let both = joined_one edge passed.0 in
-      let at : Among (get_or graph.into (number_of graph.points edge.to) []) (numbered_in graph.points edge) =
-      rw (beside.shows.into_is) (edge_there graph.points distinct (carrying rows) beside.shows.joined (λ e. e.to) edge passed.0 both.1) in
-      zipped_in graph.accepts_payments graph.into (number_of graph.points edge.to) (numbered_in graph.points edge) (flag_at edge.to both.1 ∙ passed.1) at
+      let both = joined_one takes graph.points distinct (carrying rows) graph.nodes beside.shows edge passed.0 in
+      let n = number_of graph.points edge.to in
+      let flag : (node_at graph n).accepts_payments ≡ true =
+      ap (λ (node : GraphNode). node.accepts_payments) (number_node takes graph.points distinct (carrying rows) graph.nodes beside.shows edge.to both.1)
+      ∙ passed.1 in
+      flat_in open_into graph.nodes n (bare_node false) (numbered_in graph.points edge) refl
+      (open_in (node_at graph n) (numbered_in graph.points edge) flag
+      (into_there takes graph.points distinct (carrying rows) graph.nodes beside.shows edge passed.0))
 
   stored_edge : (edge : PointEdge) → Among (point_edges graph) edge → Among (edges_of graph.known rows) edge
   stored_edge edge there =
       let listed = Among-mapped (edge_between graph.points) (edges graph) edge there in
-      let place = zipped_out graph.accepts_payments graph.into listed.0 listed.1 in
-      let at = subst (λ (ls : List (List Edge)). Among (get_or ls place.0 []) listed.0) beside.shows.into_is place.2 in
-      let made = edge_at graph.points distinct (carrying rows) beside.shows.joined (λ e. e.to) place.0 listed.0 at in
-      let both = joined_one made.0 made.1 in
+      let place = flat_out open_into graph.nodes (bare_node false) listed.0 listed.1 in
+      let at = opened (node_at graph place.0) listed.0 place.1 in
+      let made = edge_into takes graph.points distinct (carrying rows) graph.nodes beside.shows place.0 listed.0 at.1 in
+      let both = joined_one takes graph.points distinct (carrying rows) graph.nodes beside.shows made.0 made.1 in
       let own : made.0 ≡ edge =
-      sym (back_again graph.points distinct (carrying rows) beside.shows.joined made.0 both)
+      sym (back_again takes graph.points distinct (carrying rows) graph.nodes beside.shows made.0 both)
       ∙ ap (edge_between graph.points) made.2 ∙ listed.2 in
-      let flag : takes_to made.0 ≡ true = sym (flag_at made.0.to both.1) ∙ ap (λ n. get_or graph.accepts_payments n false) made.3 ∙ place.1 in
+      let flag : takes_to made.0 ≡ true =
+      sym (ap (λ (node : GraphNode). node.accepts_payments) (number_node takes graph.points distinct (carrying rows) graph.nodes beside.shows made.0.to both.1))
+      ∙ ap (λ n. (node_at graph n).accepts_payments) made.3 ∙ at.0 in
       rw (← own) (Among-passes takes_to (carrying rows) made.0 made.1 flag)
 
   pub holds : (edge : PointEdge) → Contains (point_edges graph) edge ↔ Contains (edges_of graph.known rows) edge
   holds edge = (
     λ there. Contains-Among (edges_of graph.known rows) edge (stored_edge edge (Among-Contains (point_edges graph) edge there)),
     λ there. let among = Among-Contains (edges_of graph.known rows) edge there in
-        let both = joined_one edge (Among-passed takes_to (carrying rows) edge among).0 in
-        Contains-Among (point_edges graph) edge (rw (← back_again graph.points distinct (carrying rows) beside.shows.joined edge both)
+        let both = joined_one takes graph.points distinct (carrying rows) graph.nodes beside.shows edge (Among-passed takes_to (carrying rows) edge among).0 in
+        Contains-Among (point_edges graph) edge (rw (← back_again takes graph.points distinct (carrying rows) graph.nodes beside.shows edge both)
         (Among-map (edge_between graph.points) (edges graph) (numbered_in graph.points edge) (stored_numbered edge among))),
   )
 

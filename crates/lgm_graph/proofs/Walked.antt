@@ -4,15 +4,16 @@ use Rattle.std.proofs.Common.{append_assoc, Option, refl, sym, ap, subst, ◌∙
 use Rattle.std.specs.List.{flat_map}
 use Rattle.std.proofs.lemmas.Grind.{flat_map-append}
 use Rattle.std.proofs.lemmas.List.{append-nil}
+use Rattle.lgm_wire.specs.declared.point.Point.{Point}
 use Rattle.lgm_check.specs.declared.row.ChannelRow.{ChannelRow}
 use Rattle.lgm_store.specs.declared.channel_info.ChannelInfo.{ChannelInfo}
 use Rattle.lgm_store.specs.ChannelInfo.{update_in, stored_at}
 use Rattle.lgm_store.specs.Rows.{Rows, IsAscending, update_of}
 use Rattle.lgm_graph.specs.declared.edge.Edge.{Edge}
 use Rattle.lgm_graph.specs.declared.nodes.Nodes.{Nodes}
-use Rattle.lgm_graph.specs.Edges.{PointEdge, carrying}
+use Rattle.lgm_graph.specs.Edges.{PointEdge, carrying, takes_payments}
 use Rattle.lgm_graph.specs.Graph.{Graph, IsGraphOf, IsNumbered}
-use Rattle.lgm_graph.specs.inner.Sound.{graph_in, ShowsIn, AreLookedAt}
+use Rattle.lgm_graph.specs.inner.Sound.{graph_in, ShowsIn}
 use Rattle.lgm_graph.specs.inner.Walk.{AreEdgesOf, KeepsNumbers, HasWalked, edges_of_channel}
 use Rattle.lgm_graph.proofs.ByChannel.{by_channel}
 use Rattle.lgm_store.proofs.ListLaws.{All-append, All-to}
@@ -37,8 +38,7 @@ walked_own rows stored left listed graph walked = by walked.rest walked.left_is
 module _ (known : Option (List ℕ)) (rows : Rows) (stored : ChannelInfo) (left : List ChannelInfo) (old new : Nodes) (before after : List Edge)
     (few : length new.points.keys ≤ length old.points.keys + 2) (kept : KeepsNumbers old.points.keys new.points.keys)
     (first : IsNumbered new.points.keys stored.channel.message.node_id_1) (second : IsNumbered new.points.keys stored.channel.message.node_id_2)
-    (accepts_payments : AreLookedAt known rows.nodes old → AreLookedAt known rows.nodes new)
-    (bare : ShowsIn [] old → ShowsIn [] new)
+    (bare : ShowsIn (takes_payments known rows.nodes) [] old → ShowsIn (takes_payments known rows.nodes) [] new)
     (listed : (edges : List PointEdge) → AreEdgesOf edges old.points.keys before
     → AreEdgesOf (edges ++ edges_of_channel rows.updates stored.channel) new.points.keys after) where
   pub walked_more : HasWalked rows (stored ∷ left) before (graph_in known old) → HasWalked rows left after (graph_in known new)
@@ -68,7 +68,6 @@ module _ (known : Option (List ℕ)) (rows : Rows) (stored : ChannelInfo) (left 
                 All-append _ walked.done (stored.channel ∷ []) (All-to _ _ walked.done (λ c both.
                 ((kept c.message.node_id_1 both.0).1, (kept c.message.node_id_2 both.1).1)) walked.ends)
                 ((first, second), tt);
-            accepts_payments = accepts_payments walked.accepts_payments;
             bare = bare walked.bare;
             edges_are =
                 subst (λ es. AreEdgesOf es new.points.keys after) (sym more)
@@ -78,13 +77,13 @@ module _ (known : Option (List ℕ)) (rows : Rows) (stored : ChannelInfo) (left 
 -- the whole traversal, once the edges are in their lists
 pub walked_all : (known : Option (List ℕ)) (rows : Rows) (listed : List Edge) (old new : Nodes)
     → IsAscending rows → HasWalked rows [] listed (graph_in known old)
-    → new.points.keys ≡ old.points.keys → new.accepts_payments.items ≡ old.accepts_payments.items
-    → ((edges : List PointEdge) → AreEdgesOf edges old.points.keys listed → ShowsIn edges new)
+    → new.points.keys ≡ old.points.keys
+    → ((accepts : Point → Bool) → ShowsIn accepts [] old → (edges : List PointEdge) → AreEdgesOf edges old.points.keys listed → ShowsIn accepts edges new)
     → IsGraphOf rows (graph_in known new)
-walked_all known rows listed old new ascend walked points accepts_payments shows = record {
+walked_all known rows listed old new ascend walked points shows = record {
   ends = rw (points, all) walked.ends;
-  accepts_payments = rw (accepts_payments, points) walked.accepts_payments;
-  shows = subst (λ es. ShowsIn es new) edges (shows (flat_map (edges_of_channel rows.updates) walked.done) walked.edges_are);
+  shows = subst (λ es. ShowsIn (takes_payments known rows.nodes) es new) edges
+      (shows (takes_payments known rows.nodes) walked.bare (flat_map (edges_of_channel rows.updates) walked.done) walked.edges_are);
 }
   where
     none : (rest : List ChannelRow) → [] ≡ map (stored_at rows) rest → rest ≡ []

@@ -1,5 +1,5 @@
 -- The graph of a view: numbered points, and the edges between them.
-use Rattle.std.specs.Prelude.{◌≡◌, ℕ, ◌<◌, Bool, false, List, [], map, filter, flat_map, zip}
+use Rattle.std.specs.Prelude.{◌≡◌, ℕ, ◌<◌, Bool, false, List, [], map, filter, flat_map}
 use Rattle.std.specs.Prelude.{length, slice_index_or, Contains, Option, if◌then◌else◌}
 use Rattle.std.specs.List.{AllByRecursion, IsDistinct, position_or_len}
 use Rattle.lgm_wire.specs.declared.point.Point.{Point}
@@ -7,18 +7,22 @@ use Rattle.lgm_store.specs.Rows.{Rows, is_point}
 use Rattle.lgm_graph.specs.declared.edge.Edge.{Edge}
 use Rattle.lgm_graph.specs.Edges.{PointEdge, carrying, takes_payments}
 
--- points by number, with whether each takes payments and its edges
+-- a node of a graph
+pub record GraphNode : Type 0 where
+  -- whether it takes payments
+  pub accepts_payments : Bool
+  -- the edges into it
+  pub into : List Edge
+  -- the edges out of it
+  pub out : List Edge
+
+-- points by number, and the node of each
 pub record Graph : Type 0 where
   -- the known feature bits, or none if all are known
   pub known : Option (List ℕ)
   -- a point's index is its number
   pub points : List Point
-  -- whether the node takes payments
-  pub accepts_payments : List Bool
-  -- the edges into the node
-  pub into : List (List Edge)
-  -- the edges out of the node
-  pub out : List (List Edge)
+  pub nodes : List GraphNode
 
 -- the number of a point, or the number of points if it has none
 abbrev pub number_of : List Point → Point → ℕ
@@ -66,21 +70,33 @@ edge_between points edge = record {
 
 -- ---- the contents of a view
 
+-- a node without edges
+abbrev pub bare_node : Bool → GraphNode
+bare_node accepts_payments = record { accepts_payments = accepts_payments; into = []; out = [] }
+
+-- the node of a number: one that takes no payments if there is none
+abbrev pub node_at : Graph → ℕ → GraphNode
+node_at graph number = slice_index_or graph.nodes number (bare_node false)
+
 -- whether the node of a number takes payments
 abbrev pub takes_at : Graph → ℕ → Bool
-takes_at graph number = slice_index_or graph.accepts_payments number false
+takes_at graph number = (node_at graph number).accepts_payments
 
--- the edges into the node of a number: none if it takes no payments
+-- the edges that payments can take into a node: none if it takes no payments
+abbrev pub open_into : GraphNode → List Edge
+open_into node = if node.accepts_payments then node.into else []
+
+-- those into the node of a number
 abbrev pub edges_into : Graph → ℕ → List Edge
-edges_into graph number = if takes_at graph number then slice_index_or graph.into number [] else []
+edges_into graph number = open_into (node_at graph number)
 
 -- the edges out of the node of a number, whether or not the nodes that they lead to take payments
 abbrev pub edges_leaving : Graph → ℕ → List Edge
-edges_leaving graph number = slice_index_or graph.out number []
+edges_leaving graph number = (node_at graph number).out
 
 -- the edges that payments can take
 abbrev pub edges : Graph → List Edge
-edges graph = flat_map (λ node. if node.0 then node.1 else []) (zip graph.accepts_payments graph.into)
+edges graph = flat_map open_into graph.nodes
 
 -- those edges, between points
 abbrev pub point_edges : Graph → List PointEdge
@@ -97,9 +113,8 @@ pub record IsListed (graph : Graph) (edge : Edge) : Type 0 where
 
 -- different points have different numbers, and each edge is in the lists of its nodes and nowhere else
 pub record AreListed (graph : Graph) : Type 0 where
-  -- each number has an entry
-  pub long : length graph.accepts_payments ≡ length graph.points
-  pub wide : length graph.into ≡ length graph.points
+  -- each number has a node
+  pub long : length graph.nodes ≡ length graph.points
   pub unique : IsDistinct is_point graph.points
   pub each : (edge : Edge) → Contains (edges graph) edge → IsListed graph edge
   pub into : (number : ℕ) (edge : Edge) → Contains (edges_into graph number) edge
@@ -109,25 +124,30 @@ pub record AreListed (graph : Graph) : Type 0 where
 
 -- ---- the view of rows
 
--- for each of the points, the edges that have it as an end, by number
-abbrev pub edges_by : (PointEdge → Point) → List Point → List PointEdge → List (List Edge)
-edges_by end points edges =
-    map (λ point. map (numbered_in points) (filter (λ edge. is_point point (end edge)) edges)) points
+-- the edges that have a point as an end, by number
+abbrev pub edges_with : (PointEdge → Point) → List Point → List PointEdge → Point → List Edge
+edges_with end points edges point = map (numbered_in points) (filter (λ edge. is_point point (end edge)) edges)
+
+-- the node of a point, with the edges that lead to it and leave it
+abbrev pub node_with : (Point → Bool) → List Point → List PointEdge → Point → GraphNode
+node_with accepts points edges point = record {
+  accepts_payments = accepts point;
+  into = edges_with (λ edge. edge.to) points edges point;
+  out = edges_with (λ edge. edge.from) points edges point;
+}
 
 -- both nodes of an edge are numbered
 abbrev pub IsJoined : List Point → PointEdge → Type 0
 IsJoined points edge = IsNumbered points edge.from × IsNumbered points edge.to
 
--- these edges are in the lists of both of their nodes
-pub record Shows (edges : List PointEdge) (points : List Point) (into out : List (List Edge)) : Type 0 where
+-- these edges are in the lists of both of their nodes, and these points take payments
+pub record Shows (accepts : Point → Bool) (edges : List PointEdge) (points : List Point) (nodes : List GraphNode) : Type 0 where
   pub joined : AllByRecursion (IsJoined points) edges
-  pub into_is : into ≡ edges_by (λ edge. edge.to) points edges
-  pub out_is : out ≡ edges_by (λ edge. edge.from) points edges
+  pub nodes_are : nodes ≡ map (node_with accepts points edges) points
 
 -- the view is that of the rows: the nodes of each channel are numbered, each node's features are checked, and the edges
 -- are in the lists of their nodes
 pub record IsGraphOf (rows : Rows) (graph : Graph) : Type 0 where
   pub ends : AllByRecursion (λ channel. IsNumbered graph.points channel.message.node_id_1
       × IsNumbered graph.points channel.message.node_id_2) rows.channels
-  pub accepts_payments : graph.accepts_payments ≡ map (takes_payments graph.known rows.nodes) graph.points
-  pub shows : Shows (carrying rows) graph.points graph.into graph.out
+  pub shows : Shows (takes_payments graph.known rows.nodes) (carrying rows) graph.points graph.nodes

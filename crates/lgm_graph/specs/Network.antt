@@ -38,10 +38,10 @@ GoesOnOver rows graph [] after = after ≡ graph
 GoesOnOver rows graph (op ∷ others) after =
     (next : Option Graph) × GoesOn rows graph next × GoesOnOver (absorbed rows op) next others after
 
--- a network has the view of one that was behind it, if that is left after what was due there, and else its own
+-- a network has the view of one that lagged behind it, if that is left after what was due there, and else its own
 abbrev pub TakesView : NetworkState → List Op → Option Graph → Option Graph → Type 0
-TakesView behind due own after =
-    (view : Option Graph) × GoesOnOver behind.rows behind.graph due view × (after ≡ option_or view own)
+TakesView lagging due own after =
+    (view : Option Graph) × GoesOnOver lagging.rows lagging.graph due view × (after ≡ option_or view own)
 
 -- a view that numbers few enough points for the rows stays
 abbrev pub KeepsView : NetworkState → Option Graph → Type 0

@@ -8,11 +8,12 @@
 #![tactic(auto)]
 
 mod edge;
+mod edges;
 mod fees;
 mod known;
 mod laws;
-mod lists;
 mod network;
+mod node;
 mod nodes;
 mod overlay;
 mod overlay_laws;

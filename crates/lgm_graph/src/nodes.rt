@@ -1,41 +1,32 @@
 //! Numbered nodes, and the edges of each.
 
-ghost use Rattle.std.specs.Prelude.{◌≡◌, ◌++◌, ◌∷◌, [], ℕ, ◌+◌, ◌<◌, ◌≤◌, List, map, length, slice_set};
-ghost use Rattle.std.specs.Prelude.{slice_index_or, OnOk, IfOk, Option, Bool, false, true, if◌then◌else◌};
+ghost use Rattle.std.specs.Prelude.{◌≡◌, ◌++◌, ◌∷◌, [], ℕ, ◌+◌, ◌<◌, List, length, map, slice_index_or};
+ghost use Rattle.std.specs.Prelude.{OnOk, IfOk, Option, true, false, ◌≤◌};
 ghost use Rattle.std.specs.List.{HoldsAt, list_any};
 ghost use Rattle.indexmap.specs.IndexSet.{hasher_of, spare};
 ghost use Rattle.lgm_wire.specs.declared.point.Point.{Point as APoint};
-ghost use Rattle.lgm_graph.specs.declared.edge.Edge.{Edge as AnEdge};
 ghost use Rattle.lgm_graph.specs.inner.Walk.{HasNumbered};
 ghost use Rattle.lgm_store.specs.Rows.{is_point};
 ghost use Rattle.lgm_graph.specs.Edges.{takes_payments};
 ghost use Rattle.lgm_graph.specs.inner.Lists.{edge_key, IsCut, put_at};
-ghost use Rattle.lgm_graph.specs.Graph.{number_of, IsNumbered};
-ghost use Rattle.lgm_graph.specs.inner.Sound.{graph_in, edges_in, HasRoom, HasPlaces, AreFlags, AreInto};
-ghost use Rattle.lgm_graph.specs.inner.Sound.{AreOut, closed_at, allowed_at};
+ghost use Rattle.lgm_graph.specs.Graph.{GraphNode, bare_node, number_of, IsNumbered};
+ghost use Rattle.lgm_graph.specs.inner.Sound.{graph_in, node_in, nodes_in, HasRoomInto, HasRoomOut, HasPlaces, AreNodes};
+ghost use Rattle.lgm_graph.specs.inner.Sound.{changed_at, checked_at, edge_changed, looked_at, is_allowed, is_not_of};
 
 use crate::edge::Edge;
 use crate::known::Known;
-use crate::lists;
-use crate::lists::Counts;
+use crate::node;
+use crate::node::Node;
 use indexmap::IndexSet;
 use lgm_gossip::{Point, Scid};
 use lgm_store::{Map, Seed};
 use std::alloc::{AllocError, Global};
 
-/// Edges, by id and direction.
-#[derive(Drop)]
-pub(crate) struct Edges {
-    pub(crate) edges: Vec<Edge>,
-}
-
-/// Points by number, and for each whether its node takes payments, the edges into it and the edges out of it.
+/// Points by number, and the node of each.
 #[derive(Drop)]
 pub(crate) struct Nodes {
     pub(crate) points: IndexSet<Point, Seed>,
-    pub(crate) accepts_payments: Vec<bool>,
-    pub(crate) into: Vec<Edges>,
-    pub(crate) out: Vec<Edges>,
+    pub(crate) nodes: Vec<Node>,
 }
 
 /// Whether a node takes payments. If all features are known, its announcement isn't looked up.
@@ -56,15 +47,11 @@ impl Nodes {
     pub(crate) fn new(alloc: Global, seed: Seed) -> Nodes
         ensures points { result.points.keys ≡ [] }
         ensures hasher { hasher_of result.points ≡ seed }
-        ensures accepts_payments { result.accepts_payments.items ≡ [] }
-        ensures into { result.into.items ≡ [] }
-        ensures out { result.out.items ≡ [] }
+        ensures nodes { nodes_in result ≡ [] }
     {
         Nodes {
             points: IndexSet::with_hasher(alloc, seed),
-            accepts_payments: Vec::new(alloc),
-            into: Vec::new(alloc),
-            out: Vec::new(alloc),
+            nodes: Vec::new(alloc),
         }
     }
 
@@ -75,9 +62,7 @@ impl Nodes {
     {
         Ok(Nodes {
             points: self.points.clone()?,
-            accepts_payments: self.accepts_payments.clone()?,
-            into: lists::copies(alloc, &self.into)?,
-            out: lists::copies(alloc, &self.out)?,
+            nodes: node::copies(alloc, &self.nodes)?,
         })
     }
 
@@ -112,9 +97,7 @@ impl Nodes {
         ensures places { OnOk result (HasPlaces more self.new) }
     {
         self.points.reserve(more)?;
-        self.accepts_payments.reserve(more)?;
-        self.into.reserve(more)?;
-        self.out.reserve(more)
+        self.nodes.reserve(more)
     }
 
     /// Numbers another point.
@@ -122,56 +105,46 @@ impl Nodes {
         requires room { HasPlaces 1 self.old }
         requires other { list_any (is_point point) self.old.points.keys ≡ false }
         ensures points { self.new.points.keys ≡ self.old.points.keys ++ point ∷ [] }
-        ensures accepts_payments { self.new.accepts_payments.items ≡ self.old.accepts_payments.items ++ accepts_payments ∷ [] }
-        ensures into { map edges_in self.new.into.items ≡ map edges_in self.old.into.items ++ [] ∷ [] }
-        ensures out { map edges_in self.new.out.items ≡ map edges_in self.old.out.items ++ [] ∷ [] }
+        ensures nodes { nodes_in self.new ≡ nodes_in self.old ++ bare_node accepts_payments ∷ [] }
         ensures places { (more : ℕ) → HasPlaces (more + 1) self.old → HasPlaces more self.new }
     {
         push_point(&mut self.points, point);
-        self.accepts_payments.push_reserved(accepts_payments);
-        let edges = Vec::new(alloc);
-        self.into.push_reserved(Edges { edges });
-        let edges = Vec::new(alloc);
-        self.out.push_reserved(Edges { edges });
+        self.nodes.push_reserved(Node::new(alloc, accepts_payments));
     }
 
     /// Reserves capacity for exactly these edges at their nodes, so that no list grows step by step.
     pub(crate) fn reserve_for(&mut self, alloc: Global, edges: &[Edge]) -> Result<(), AllocError>
         ensures same { (known : Option (List ℕ)) → graph_in known self.new ≡ graph_in known self.old }
     {
-        let counts = Counts::of(alloc, self.points.len(), edges)?;
-        lists::reserve_all(&mut self.into, &counts.into)?;
-        lists::reserve_all(&mut self.out, &counts.out)
+        let degrees = degrees(alloc, self.points.len(), edges)?;
+        reserve_all(&mut self.nodes, &degrees)
     }
 
     /// Reserves capacity for one more edge from one node to another.
     pub(crate) fn reserve_edges(&mut self, from: usize, to: usize) -> Result<(), AllocError>
-        requires from { from < length self.old.out.items }
-        requires to { to < length self.old.into.items }
+        requires from { from < length self.old.nodes.items }
+        requires to { to < length self.old.nodes.items }
         ensures same { (known : Option (List ℕ)) → graph_in known self.new ≡ graph_in known self.old }
-        ensures leaving { OnOk result (HoldsAt HasRoom self.new.out.items from) }
-        ensures into { OnOk result (HoldsAt HasRoom self.new.into.items to) }
+        ensures long { length self.new.nodes.items ≡ length self.old.nodes.items }
+        ensures into { OnOk result (HoldsAt HasRoomInto self.new.nodes.items to) }
+        ensures leaving { OnOk result (HoldsAt HasRoomOut self.new.nodes.items from) }
     {
-        lists::reserve_at(&mut self.into, to)?;
-        lists::reserve_at(&mut self.out, from)
+        self.nodes[to].reserve_into()?;
+        self.nodes[from].reserve_out()
     }
 
     /// Appends an edge at both of its nodes.
     pub(crate) fn push_edge(&mut self, from: usize, to: usize, edge: Edge)
-        requires from { from < length self.old.out.items }
-        requires to { to < length self.old.into.items }
-        requires leaving { HoldsAt HasRoom self.old.out.items from }
-        requires into { HoldsAt HasRoom self.old.into.items to }
+        requires from { from < length self.old.nodes.items }
+        requires to { to < length self.old.nodes.items }
+        requires into { HoldsAt HasRoomInto self.old.nodes.items to }
+        requires leaving { HoldsAt HasRoomOut self.old.nodes.items from }
         ensures points { self.new.points.keys ≡ self.old.points.keys }
-        ensures accepts_payments { self.new.accepts_payments.items ≡ self.old.accepts_payments.items }
-        ensures into { map edges_in self.new.into.items ≡ slice_set (map edges_in self.old.into.items) to
-            (slice_index_or (map edges_in self.old.into.items) to [] ++ edge ∷ []) }
-        ensures out { map edges_in self.new.out.items ≡ slice_set (map edges_in self.old.out.items) from
-            (slice_index_or (map edges_in self.old.out.items) from [] ++ edge ∷ []) }
+        ensures nodes { nodes_in self.new ≡ edge_changed from to (λ edges. edges ++ edge ∷ []) (nodes_in self.old) }
     {
         let copy = edge;
-        lists::push_at(&mut self.into, to, copy);
-        lists::push_at(&mut self.out, from, edge);
+        self.nodes[to].push_into(copy);
+        self.nodes[from].push_out(edge);
     }
 
     /// At both of its nodes, inserts an edge or replaces the one with its id and direction, or removes that one.
@@ -183,66 +156,66 @@ impl Nodes {
         second: bool,
         edge: Option<Edge>,
     )
-        requires from { from < length self.old.out.items }
-        requires to { to < length self.old.into.items }
-        requires leaving { HoldsAt HasRoom self.old.out.items from }
-        requires into { HoldsAt HasRoom self.old.into.items to }
+        requires from { from < length self.old.nodes.items }
+        requires to { to < length self.old.nodes.items }
+        requires into { HoldsAt HasRoomInto self.old.nodes.items to }
+        requires leaving { HoldsAt HasRoomOut self.old.nodes.items from }
         requires cut_into { IsCut (edge_key scid second)
-            (slice_index_or (map edges_in self.old.into.items) to []) }
+            (slice_index_or (nodes_in self.old) to (bare_node false)).into }
         requires cut_out { IsCut (edge_key scid second)
-            (slice_index_or (map edges_in self.old.out.items) from []) }
+            (slice_index_or (nodes_in self.old) from (bare_node false)).out }
         ensures points { self.new.points.keys ≡ self.old.points.keys }
-        ensures accepts_payments { self.new.accepts_payments.items ≡ self.old.accepts_payments.items }
-        ensures into { map edges_in self.new.into.items ≡ slice_set (map edges_in self.old.into.items) to
-            (put_at (edge_key scid second) (slice_index_or (map edges_in self.old.into.items) to []) edge) }
-        ensures out { map edges_in self.new.out.items ≡ slice_set (map edges_in self.old.out.items) from
-            (put_at (edge_key scid second) (slice_index_or (map edges_in self.old.out.items) from []) edge) }
+        ensures nodes { nodes_in self.new ≡ edge_changed from to (λ edges. put_at (edge_key scid second) edges edge)
+            (nodes_in self.old) }
     {
         let copy = edge;
-        lists::put_at(&mut self.into, to, scid, second, copy);
-        lists::put_at(&mut self.out, from, scid, second, edge);
+        self.nodes[to].put_into(scid, second, copy);
+        self.nodes[from].put_out(scid, second, edge);
     }
 
-    /// Recomputes whether a node takes payments, if it is numbered.
+    /// Checks the features of a node anew, if it is numbered.
     pub(crate) fn refresh_features(&mut self, known: &Known, map: &Map, node: &Point)
-        requires { length self.old.accepts_payments.items ≡ length self.old.points.keys }
+        requires { length self.old.nodes.items ≡ length self.old.points.keys }
         ensures points { self.new.points.keys ≡ self.old.points.keys }
-        ensures into { self.new.into.items ≡ self.old.into.items }
-        ensures out { self.new.out.items ≡ self.old.out.items }
-        ensures accepts_payments { (before : APoint → Bool) → AreFlags before self.old
-            → AreFlags (λ q. if is_point node.now q then takes_payments known.now map.now.nodes q
-            else before q) self.new }
+        ensures nodes { (before : APoint → GraphNode) → AreNodes before self.old
+            → AreNodes (changed_at node.now (checked_at known.now map.now.nodes) before) self.new }
     {
         // The contract of `len` says that points are distinct.
         let _ = self.points.len();
         if let Some(number) = self.points.get_index_of(node) {
-            self.accepts_payments[number] = takes_payments(known, map, node);
+            self.nodes[number].accepts_payments = takes_payments(known, map, node);
         }
     }
 
-    /// Removes the edges of a closed channel at a node, and recomputes whether the node takes payments.
+    /// Removes the edges of a closed channel at a node, and checks the node's features anew.
     pub(crate) fn close_at(&mut self, known: &Known, map: &Map, node: &Point, scid: Scid)
         requires numbered { IsNumbered self.old.points.keys node.now }
-        requires accepts_payments { length self.old.accepts_payments.items ≡ length self.old.points.keys }
-        requires into { length self.old.into.items ≡ length self.old.points.keys }
-        requires out { length self.old.out.items ≡ length self.old.points.keys }
+        requires long { length self.old.nodes.items ≡ length self.old.points.keys }
         ensures points { self.new.points.keys ≡ self.old.points.keys }
-        ensures into_long { length self.new.into.items ≡ length self.old.into.items }
-        ensures out_long { length self.new.out.items ≡ length self.old.out.items }
-        ensures into { (before : APoint → List AnEdge) → AreInto before self.old
-            → AreInto (closed_at node.now scid before) self.new }
-        ensures out { (before : APoint → List AnEdge) → AreOut before self.old
-            → AreOut (closed_at node.now scid before) self.new }
-        ensures accepts_payments { (before : APoint → Bool) → AreFlags before self.old
-            → AreFlags (λ q. if is_point node.now q then takes_payments known.now map.now.nodes q
-            else before q) self.new }
+        ensures long { length self.new.nodes.items ≡ length self.old.nodes.items }
+        ensures nodes { (before : APoint → GraphNode) → AreNodes before self.old
+            → AreNodes (changed_at node.now (looked_at known.now map.now.nodes (is_not_of scid)) before) self.new }
     {
         // The contract of `len` says that points are distinct.
         let _ = self.points.len();
         let number = self.number_of(node);
-        lists::drop_at(&mut self.into, number, scid);
-        lists::drop_at(&mut self.out, number, scid);
-        self.refresh_features(known, map, node);
+        self.nodes[number].close(scid, takes_payments(known, map, node));
+    }
+
+    /// Removes the edges to banned nodes at a node, if it is numbered, and checks its features anew.
+    pub(crate) fn ban_at(&mut self, known: &Known, map: &Map, node: &Point)
+        requires { length self.old.nodes.items ≡ length self.old.points.keys }
+        ensures points { self.new.points.keys ≡ self.old.points.keys }
+        ensures long { length self.new.nodes.items ≡ length self.old.nodes.items }
+        ensures nodes { (before : APoint → GraphNode) → AreNodes before self.old
+            → AreNodes (changed_at node.now (looked_at known.now map.now.nodes
+            (is_allowed self.old.points.keys map.now.banned)) before) self.new }
+    {
+        // The contract of `len` says that points are distinct.
+        let _ = self.points.len();
+        if let Some(number) = self.points.get_index_of(node) {
+            self.nodes[number].ban(&self.points, map, takes_payments(known, map, node));
+        }
     }
 
     /// Numbers a point, unless it is numbered.
@@ -257,32 +230,39 @@ impl Nodes {
         let accepts_payments = takes_payments(known, stored, &point);
         self.add(alloc, point, accepts_payments);
     }
+}
 
-    /// Removes the edges to banned nodes at a node, if it is numbered, and recomputes whether it takes payments.
-    pub(crate) fn ban_at(&mut self, known: &Known, map: &Map, node: &Point)
-        requires accepts_payments { length self.old.accepts_payments.items ≡ length self.old.points.keys }
-        requires into { length self.old.into.items ≡ length self.old.points.keys }
-        requires out { length self.old.out.items ≡ length self.old.points.keys }
-        ensures points { self.new.points.keys ≡ self.old.points.keys }
-        ensures takes_long { length self.new.accepts_payments.items ≡ length self.old.accepts_payments.items }
-        ensures into_long { length self.new.into.items ≡ length self.old.into.items }
-        ensures out_long { length self.new.out.items ≡ length self.old.out.items }
-        ensures into { (before : APoint → List AnEdge) → AreInto before self.old
-            → AreInto (allowed_at node.now self.old.points.keys map.now.banned before) self.new }
-        ensures out { (before : APoint → List AnEdge) → AreOut before self.old
-            → AreOut (allowed_at node.now self.old.points.keys map.now.banned before) self.new }
-        ensures accepts_payments { (before : APoint → Bool) → AreFlags before self.old
-            → AreFlags (λ q. if is_point node.now q then takes_payments known.now map.now.nodes q
-            else before q) self.new }
-    {
-        // The contract of `len` says that points are distinct.
-        let _ = self.points.len();
-        if let Some(number) = self.points.get_index_of(node) {
-            lists::drop_banned_at(&mut self.into, number, &self.points, map);
-            lists::drop_banned_at(&mut self.out, number, &self.points, map);
-            self.accepts_payments[number] = takes_payments(known, map, node);
+/// How many edges a node has.
+#[derive(Clone, Copy)]
+struct Degree {
+    into: u32,
+    out: u32,
+}
+
+/// How many of some edges each of this many nodes has.
+fn degrees(alloc: Global, nodes: usize, edges: &[Edge]) -> Result<Vec<Degree>, AllocError> {
+    let mut degrees = vec![in alloc; Degree { into: 0, out: 0 }; nodes]?;
+    for edge in edges {
+        if let Some(degree) = degrees.get_mut(edge.to as usize) {
+            degree.into = degree.into.saturating_add(1);
+        }
+        if let Some(degree) = degrees.get_mut(edge.from as usize) {
+            degree.out = degree.out.saturating_add(1);
         }
     }
+    Ok(degrees)
+}
+
+/// Reserves capacity for exactly as many more edges at each node.
+fn reserve_all(nodes: &mut Vec<Node>, degrees: &[Degree]) -> Result<(), AllocError>
+    ensures { map node_in nodes.new.items ≡ map node_in nodes.old.items }
+{
+    for number in 0..nodes.len() {
+        if let Some(degree) = degrees.get(number) {
+            nodes[number].reserve_exact(degree.into, degree.out)?;
+        }
+    }
+    Ok(())
 }
 
 fn push_point(points: &mut IndexSet<Point, Seed>, point: Point)

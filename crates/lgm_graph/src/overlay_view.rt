@@ -17,12 +17,11 @@ mod touched_node;
 mod touched_nodes;
 
 use crate::edge::Edge;
-use crate::nodes::Edges;
 use crate::overlay::Overlay;
 use crate::routing_graph::RoutingGraph;
 use crate::view::View;
 use lgm_gossip::Point;
-use lists::{list_or, lists_into, lists_out};
+use lists::{Edges, list_or, lists_into, lists_out};
 use points::Points;
 use std::alloc::{AllocError, Global};
 use std::marker::Model;
@@ -48,8 +47,8 @@ impl<'a> Model for OverlayView<'a> {
 
     ghost Value = { Graph };
 
-    ghost use Rattle.lgm_graph.specs.inner.Overlaying.{graph_over};
-    ghost use Rattle.lgm_graph.specs.inner.Sound.{edges_in, IsSound};
+    ghost use Rattle.lgm_graph.specs.inner.Overlaying.{edges_in, graph_over};
+    ghost use Rattle.lgm_graph.specs.inner.Sound.{IsSound};
 
     ghost view = { λ o. graph_over o.view.now o.points o.places.items (map edges_in o.into.items) (map edges_in o.out.items) };
 

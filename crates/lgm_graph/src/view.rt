@@ -1,7 +1,7 @@
 //! The view of a map.
 
 ghost use Rattle.std.specs.Prelude.{◌≡◌, ◌↔◌, Contains, ◌+◌, ◌-◌, ◌^◌, ◌<◌, ◌≤◌};
-ghost use Rattle.std.specs.Prelude.{length, min, [], slice_get, slice_index_or, IfOk, OnOk, OnErr};
+ghost use Rattle.std.specs.Prelude.{length, min, slice_get, IfOk, OnOk, OnErr};
 ghost use Rattle.std.specs.List.{position};
 ghost use Rattle.std.specs.List.Sorted.{IsPermutation};
 ghost use Rattle.std.specs.Option.{option_copied};
@@ -9,7 +9,7 @@ ghost use Rattle.lgm_store.specs.Rows.{Rows, is_point};
 ghost use Rattle.lgm_store.specs.History.{absorbed};
 ghost use Rattle.lgm_graph.specs.Edges.{PointEdge, edges_of};
 ghost use Rattle.lgm_graph.specs.Graph.{AreListed, IsGraphOf, edges, point_edges};
-ghost use Rattle.lgm_graph.specs.Graph.{takes_at, edges_into, edges_leaving};
+ghost use Rattle.lgm_graph.specs.Graph.{node_at, takes_at, edges_into, edges_leaving};
 ghost use Rattle.lgm_graph.specs.inner.Sound.{IsSound};
 
 mod affected_nodes;
@@ -80,8 +80,8 @@ impl View {
     pub fn takes_payments(&self, number: u32) -> bool
         ensures { result ≡ takes_at self.now number }
     {
-        match self.nodes.accepts_payments.get(number as usize) {
-            Some(accepts_payments) => *accepts_payments,
+        match self.nodes.nodes.get(number as usize) {
+            Some(node) => node.accepts_payments,
             None => false,
         }
     }
@@ -91,21 +91,18 @@ impl View {
     pub fn edges_into(&self, number: u32) -> &[Edge]
         ensures { result.now ≡ edges_into self.now number }
     {
-        if !self.takes_payments(number) {
-            return &[];
-        }
-        match self.nodes.into.get(number as usize) {
-            Some(list) => list.edges.as_slice(),
+        match self.nodes.nodes.get(number as usize) {
+            Some(node) => node.open_into(),
             None => &[],
         }
     }
 
     /// The edges into the node with an index, by id and direction, whether or not it takes payments.
     pub(crate) fn all_into(&self, number: u32) -> &[Edge]
-        ensures { result.now ≡ slice_index_or self.now.into number [] }
+        ensures { result.now ≡ (node_at self.now number).into }
     {
-        match self.nodes.into.get(number as usize) {
-            Some(list) => list.edges.as_slice(),
+        match self.nodes.nodes.get(number as usize) {
+            Some(node) => node.into.as_slice(),
             None => &[],
         }
     }
@@ -114,8 +111,8 @@ impl View {
     pub fn edges_leaving(&self, number: u32) -> &[Edge]
         ensures { result.now ≡ edges_leaving self.now number }
     {
-        match self.nodes.out.get(number as usize) {
-            Some(list) => list.edges.as_slice(),
+        match self.nodes.nodes.get(number as usize) {
+            Some(node) => node.out.as_slice(),
             None => &[],
         }
     }

@@ -9,7 +9,7 @@ use Rattle.std.proofs.lemmas.List.Elements.{All-head, All-tail, All-cons, All-ta
 use Rattle.std.proofs.lemmas.List.Sorted.{IsNonDecreasingBy-push}
 use Rattle.std.proofs.lemmas.Slice.Zip.{all_zipped_more}
 use mathlib.Core.List.{IsPrefix}
-use Rattle.lgm_par.proofs.Zipping.{zip_both, zip_weaker}
+use Rattle.lgm_par.proofs.PlacewiseLaws.{zip_both, zip_weaker}
 use Rattle.lgm_store.specs.declared.op.Op.{Op}
 use Rattle.lgm_store.specs.History.{fold}
 use Rattle.lgm_graph.specs.Edges.{edges_of}

@@ -5,7 +5,7 @@ use Rattle.lgm_script.specs.declared.output.SendFault.{SendFault}
 use Rattle.lgm_script.specs.declared.output.SendFault.TheVariants.{Write}
 use Rattle.lgm_script.specs.Device.{AppendsSome}
 use Rattle.lgm_script.specs.Output.{OutputState, Tells, TellsPart}
-use Rattle.lgm_script.proofs.Telling.{taken_some, some_of_all, some_of_part, some_flushed, some_flushed_part}
+use Rattle.lgm_script.proofs.WrittenTextLaws.{taken_some, some_of_all, some_of_part, some_flushed, some_flushed_part}
 
 -- a prefix was written, and nothing is written after it
 pub part_written : (result : Result (Unit {0}) SendFault) (old mid : OutputState) (text : List ℕ) → old.buffered ≡ []

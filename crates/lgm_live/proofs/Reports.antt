@@ -4,7 +4,7 @@ use Rattle.std.specs.Prelude.{All, MatchResult}
 use Rattle.std.specs.List.{AllZip}
 use Rattle.std.specs.Global.{Vec}
 use Rattle.logbook.specs.Pages.{Book}
-use Rattle.lgm_par.proofs.Zipping.{zip_weaker}
+use Rattle.lgm_par.proofs.PlacewiseLaws.{zip_weaker}
 use Rattle.lgm_wire.specs.declared.chain_hash.ChainHash.{ChainHash}
 use Rattle.lgm_check.specs.declared.refusal.Refusal.{Refusal}
 use Rattle.lgm_script.specs.declared.item.Item.{Item}

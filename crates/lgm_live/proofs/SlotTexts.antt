@@ -8,7 +8,7 @@ use Rattle.std.proofs.lemmas.List.Sums.{sum_by-append}
 use Rattle.lgm_script.specs.declared.output.SendFault.{SendFault}
 use Rattle.lgm_script.specs.Output.{OutputState, Tells, TellsPart}
 use Rattle.lgm_script.specs.Text.{word_line}
-use Rattle.lgm_script.proofs.Telling.{tells_both, tells_part_behind, tells_part_more}
+use Rattle.lgm_script.proofs.WrittenTextLaws.{tells_both, tells_part_behind, tells_part_more}
 use Rattle.lgm_live.specs.declared.report.LiveReport.{LiveReport}
 use Rattle.lgm_live.specs.declared.parsed_script.LineAnswer.{LineAnswer}
 use Rattle.lgm_live.specs.declared.parsed_script.LineAnswer.TheVariants as line_answers

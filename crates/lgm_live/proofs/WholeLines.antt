@@ -16,7 +16,7 @@ use Rattle.lgm_script.specs.Output.{OutputState, Tells, TellsPart}
 use Rattle.lgm_script.specs.Command.{command_of}
 use Rattle.lgm_script.proofs.Ahead.{left_is}
 use Rattle.lgm_script.proofs.FirstLines.{each-push, stands_at}
-use Rattle.lgm_script.proofs.Splitting.{next_of}
+use Rattle.lgm_script.proofs.FirstLineFeedLaws.{next_of}
 use Rattle.lgm_answers.specs.declared.run_fault.TheConstants.{MAX_LINES}
 use Rattle.lgm_answers.proofs.LineFaults.{failed}
 use Rattle.lgm_answers.proofs.Lines.{some_bytes, has_line}

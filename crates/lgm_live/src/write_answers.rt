@@ -4,7 +4,6 @@ ghost use Rattle.std.specs.Prelude.{◌≡◌, ◌≤◌, ◌+◌, ◌<◌, ◌^
 ghost use Rattle.std.specs.Option.{option_map};
 ghost use Rattle.lgm_script.specs.Device.{Appends, AppendsSome};
 ghost use Rattle.lgm_script.specs.Output.{told_by, Writes};
-ghost use Rattle.lgm_answers.specs.Answer.{route_text};
 ghost use Rattle.lgm_live.specs.Text.{answer_at};
 ghost use Rattle.lgm_live.specs.inner.Telling.{place_passed, same_text, slot_text};
 ghost use Rattle.lgm_live.specs.inner.Telling.{slots_before, IsThere, AreThere};
@@ -12,9 +11,7 @@ ghost use Rattle.lgm_live.specs.declared.report.LiveAnswer.{LiveAnswer};
 
 use crate::parsed_script::LineAnswer;
 use crate::report::{LiveAnswer, LiveReport};
-use lgm_answers::{MAX_LINES, outcome_word, send_route};
-use lgm_payload::build;
-use lgm_route::{Route, RouteFault};
+use lgm_answers::{MAX_LINES, outcome_word, send_found};
 use lgm_script::{Line, Output, SendFault, Sink};
 use std::alloc::Global;
 
@@ -61,26 +58,6 @@ fn answer_at(answers: &[Vec<LiveAnswer>], workers: usize, place: usize) -> Optio
     answers.get(place % workers)?.get(place / workers)
 }
 
-/// Writes a route with the payloads of its hops, or why there is none.
-fn tell_result<W: Sink>(
-    alloc: Global,
-    number: u64,
-    secret: &[u8; 32],
-    found: &Result<Route, RouteFault>,
-    output: &mut Output<'_, W>,
-) -> Result<(), SendFault>
-    ensures { Writes (told_by W.seen output.old) (told_by W.seen output.new)
-        (route_text number secret.now found.now) result }
-{
-    match found {
-        Ok(route) => {
-            let payloads = build(alloc, route, secret)?;
-            send_route(number, route, &payloads, output)
-        }
-        Err(fault) => output.send(number, &Line::Word(fault.word())),
-    }
-}
-
 /// Writes the answer to a payment, with the version of its map. That the map of that many operations gives the same
 /// answer is proved of each report of `live`, so it isn't computed again.
 fn tell_answer<W: Sink>(
@@ -96,7 +73,7 @@ fn tell_answer<W: Sink>(
     let version = answer.version;
     let word = format!(in alloc; "at {version} same")?;
     output.send(number, &Line::Word(word.as_str()))?;
-    tell_result(alloc, number, secret, &answer.result, output)
+    send_found(alloc, number, secret, &answer.result, output)
 }
 
 /// Writes the answer to the line with this number, from where the report has it.

@@ -3,13 +3,13 @@
 use crate::gates::{Holding, InTurns, LIMIT, Passes, Plan};
 use crate::runs::TWO_CHANNELS;
 use lgm_check::Refusal;
-use lgm_gossip::{ChainHash, Point};
-use lgm_graph::Known;
+use lgm_gossip::{ChainHash, Point, Scid};
+use lgm_graph::{Hop, Known};
 use lgm_par::{Gate, Open};
-use lgm_route::{Request, Route, RouteFault};
+use lgm_route::{Request, RouteFault};
 use lgm_script::Item;
 use lgm_server::{Batches, LiveAnswer, LiveReport, RequestLists, live};
-use lgm_test_scripts::{Line, item_of, script_of};
+use lgm_test_scripts::{item_of, spelled};
 use std::alloc::{AllocError, Global};
 use std::marker::Sync;
 use std::process::Abort;
@@ -22,17 +22,16 @@ use std::thread::Threads;
 
 const CHAIN: ChainHash = ChainHash([0xc1; 32]);
 
-/// A node of the lines, by its number.
-fn node(number: u8) -> Point {
-    let mut bytes = [0; 33];
+/// A node of the two channels: A by 0x0a, B by 0x0b, and C by 0x0c.
+fn node(byte: u8) -> Point {
+    let mut bytes = [byte; 33];
     bytes[0] = 2;
-    bytes[32] = number;
     Point(bytes)
 }
 
-/// The items of some lines.
-fn items_of(alloc: Global, lines: &[Line]) -> Result<Vec<Item>, Fail> {
-    let script = script_of(alloc, lines)?;
+/// The items of some lines, in the notation of `spelled`.
+fn items_of(alloc: Global, lines: &str) -> Result<Vec<Item>, Fail> {
+    let script = spelled(alloc, lines)?;
     let mut items = Vec::new(alloc);
     for line in script.lines() {
         items.push(item_of(alloc, line)?.ok_or("no item")?)?;
@@ -43,18 +42,18 @@ fn items_of(alloc: Global, lines: &[Line]) -> Result<Vec<Item>, Fail> {
 /// A batch of the two channels, and then this many empty ones.
 fn batches(alloc: Global, empty: usize) -> Result<Batches, Fail> {
     let mut batches = Batches::new(alloc);
-    batches.push(items_of(alloc, &TWO_CHANNELS)?)?;
+    batches.push(items_of(alloc, TWO_CHANNELS)?)?;
     for _batch in 0..empty {
         batches.push(Vec::new(alloc))?;
     }
     Ok(batches)
 }
 
-/// This many workers, each with the payment from node 0 to node 2 this many times.
+/// This many workers, each with the payment from A to C this many times.
 pub fn lists(alloc: Global, workers: usize, times: usize) -> Result<RequestLists, AllocError> {
     let request = Request {
-        payer: node(0),
-        payee: node(2),
+        payer: node(0x0a),
+        payee: node(0x0c),
         amount: 4_999_999,
         expiry: 700_009,
     };
@@ -69,14 +68,29 @@ pub fn lists(alloc: Global, workers: usize, times: usize) -> Result<RequestLists
     Ok(lists)
 }
 
-/// Node 1 takes 200 and 2,000 ppm of 4,999,999, which are 9,999, and 20 blocks.
-fn is_the_route(route: &Route) -> bool {
-    route.as_slice().len() == 2 && route.sent() == 5_010_198 && route.expiry() == 700_029
+/// The hops of the only route: B takes 200 msat and 2,000 ppm of 4,999,999, which are 9,999 msat, and 20 blocks.
+fn the_hops() -> [Hop; 2] {
+    [
+        Hop {
+            scid: Scid::new(600_000, 0, 0),
+            from: node(0x0a),
+            to: node(0x0b),
+            amount: 5_010_198,
+            expiry: 700_029,
+        },
+        Hop {
+            scid: Scid::new(600_000, 1, 0),
+            from: node(0x0b),
+            to: node(0x0c),
+            amount: 4_999_999,
+            expiry: 700_009,
+        },
+    ]
 }
 
 fn is_right(answer: &LiveAnswer) -> bool {
     match &answer.result {
-        Ok(route) => answer.version == 4 && is_the_route(route),
+        Ok(route) => answer.version == 4 && route.as_slice() == the_hops().as_slice(),
         Err(fault) => answer.version == 0 && *fault == RouteFault::NoRoute,
     }
 }
@@ -199,7 +213,7 @@ fn numbers_at_the_gate(rt: HostRuntime) -> Result<(), Fail> {
 fn four_payments_over_four_versions(rt: HostRuntime) -> Result<(), Fail> {
     let alloc = rt.alloc();
     let mut batches = Batches::new(alloc);
-    for item in items_of(alloc, &TWO_CHANNELS)? {
+    for item in items_of(alloc, TWO_CHANNELS)? {
         let mut batch = Vec::new(alloc);
         batch.push(item)?;
         batches.push(batch)?;
@@ -246,11 +260,13 @@ fn a_worker_may_have_no_payment(rt: HostRuntime) -> Result<(), Fail> {
 #[test]
 fn refusals_are_reported(rt: HostRuntime) -> Result<(), Fail> {
     let alloc: Global = rt.alloc();
-    let channel = Line::Channel(600_000, 0, 1, 100_000, &[]);
-    let close = Line::Close(600_000);
+    let channel = "m ca(600000x0x0,A,B) all 100000";
+    let close = "close 600000x0x0";
+    let first = format!(in alloc; "{close}\n{channel}")?;
+    let second = format!(in alloc; "{channel}\n{close}")?;
     let mut batches = Batches::new(alloc);
-    batches.push(items_of(alloc, &[close, channel])?)?;
-    batches.push(items_of(alloc, &[channel, close])?)?;
+    batches.push(items_of(alloc, first.as_str())?)?;
+    batches.push(items_of(alloc, second.as_str())?)?;
     let lists = lists(alloc, 1, 1)?;
     let report = report_of(&rt, alloc, &batches, &lists, &Open)?;
     let wanted = [

@@ -5,7 +5,7 @@ use crate::runs::{TWO_CHANNELS, ended};
 use lgm_par::{Gate, Open};
 use lgm_script::MemorySink;
 use lgm_server::RunFault;
-use lgm_test_scripts::{FREE, Line, SECRET, script_of};
+use lgm_test_scripts::{FREE, Line, script_of, spelled};
 use std::alloc::{AllocError, Global};
 use std::marker::Sync;
 use std::random::RandomSource;
@@ -18,48 +18,56 @@ use std::thread::Threads;
 /// The maximum number of turns that a worker waits.
 const LIMIT: u64 = 100_000_000;
 
-/// What is asked of the two channels, and an update that isn't newer.
-const REQUESTS: [Line; 7] = [
-    Line::Commit,
-    Line::Pay(0, 2, 4_999_999, 700_009),
-    Line::Pay(2, 0, 4_999_999, 700_009),
-    Line::Pay(1, 1, 4_999_999, 700_009),
-    Line::Pay(0, 2, 0, 700_009),
-    Line::Update(600_000, 0, 1, 1, FREE),
-    Line::Commit,
-];
-
-/// Lines that have no answer of the map.
-const OTHERS: &str = "hello\nq 00\nfilter 7 00\n\nfilter 1000 00";
-
-/// A comment, the two channels, the requests, and the others.
-fn script(alloc: Global) -> Result<String, AllocError> {
-    let mut script = script_of(alloc, &[Line::Note])?;
-    script.push_str(script_of(alloc, &TWO_CHANNELS)?.as_str())?;
-    script.push_str(script_of(alloc, &REQUESTS)?.as_str())?;
-    script.push_str(OTHERS)?;
-    Ok(script)
-}
+/// What is asked of the two channels, an update that isn't newer, and lines that have no answer of the map.
+const REQUESTS: &str = "commit\n\
+    route A C 4999999 700009 S\n\
+    route C A 4999999 700009 S\n\
+    route B B 4999999 700009 S\n\
+    route A C 0 700009 S\n\
+    m cu(600000x0x0,0,1) A -\n\
+    commit\n\
+    hello\n\
+    q 00\n\
+    filter 7 00\n\
+    \n\
+    filter 1000 00";
 
 /// The answers to the items and commits, to the payments on the map of all items, and to the others.
-fn text(alloc: Global) -> Result<String, Fail> {
-    Ok(format!(in alloc;
-        "2 accepted\n3 accepted\n4 accepted\n5 accepted\n6 commit 4\n\
-        7 at 4 same\n7 route 5010198 700029 2\n\
-        7 hop 600000x0x0 1402034c4b3f04030aae6906080927c10000000000\n\
-        7 hop 600001x0x0 2f02034c4b3f04030aae690823{SECRET}4c4b3f\n\
-        8 at 4 same\n8 no-route\n9 at 4 same\n9 self-payment\n10 at 4 same\n10 amount-zero\n\
-        11 not-newer\n12 commit 4\n\
-        13 bad\n14 not-live\n15 not-live\n17 bad\n"
-    )?)
+const ANSWERS: &str = "2 accepted\n\
+    3 accepted\n\
+    4 accepted\n\
+    5 accepted\n\
+    6 commit 4\n\
+    7 at 4 same\n\
+    7 route 5010198 700029 2\n\
+    7 hop 600000x0x0 [14 02034c4b3f 04030aae69 0608 0927c00000010000]\n\
+    7 hop 600000x1x0 [2f 02034c4b3f 04030aae69 0823 S 4c4b3f]\n\
+    8 at 4 same\n\
+    8 no-route\n\
+    9 at 4 same\n\
+    9 self-payment\n\
+    10 at 4 same\n\
+    10 amount-zero\n\
+    11 not-newer\n\
+    12 commit 4\n\
+    13 bad\n\
+    14 not-live\n\
+    15 not-live\n\
+    17 bad\n";
+
+/// A comment, the two channels, and the requests.
+fn script(alloc: Global) -> Result<String, AllocError> {
+    let script = format!(in alloc; "#\n{TWO_CHANNELS}{REQUESTS}")?;
+    spelled(alloc, script.as_str())
 }
 
-/// Delays each worker until the writer has begun this many publications.
+/// Delays each worker until the writer has begun this many publications, or has ended.
 #[derive(Drop)]
 struct Behind {
     workers: usize,
     wanted: u64,
     begun: AtomicU64,
+    ended: AtomicU64,
 }
 
 impl Behind {
@@ -68,7 +76,13 @@ impl Behind {
             workers,
             wanted,
             begun: AtomicU64::new(0),
+            ended: AtomicU64::new(0),
         }
+    }
+
+    /// Whether no worker need wait any more.
+    fn is_over(&self) -> bool {
+        self.begun.load(Ordering::SeqCst) >= self.wanted || self.ended.load(Ordering::SeqCst) > 0
     }
 }
 
@@ -79,10 +93,16 @@ impl Gate for Behind {
             return;
         }
         for _turn in 0..LIMIT {
-            if self.begun.load(Ordering::SeqCst) >= self.wanted {
+            if self.is_over() {
                 break;
             }
             thread::yield_now();
+        }
+    }
+
+    fn published(&self, batches: usize) {
+        if batches == usize::MAX {
+            self.ended.fetch_add(1, Ordering::SeqCst);
         }
     }
 }
@@ -102,7 +122,7 @@ fn told<Rt: Threads + Wait + Sync + RandomSource, G: Gate>(
 #[test]
 fn all_is_told_in_its_place(rt: HostRuntime) -> Result<(), Fail> {
     let alloc = rt.alloc();
-    let (script, want) = (script(alloc)?, text(alloc)?);
+    let (script, want) = (script(alloc)?, spelled(alloc, ANSWERS)?);
     for workers in [1, 2, 3, 64] {
         let gate = Behind::new(workers, 3);
         let (fault, writer) = told(&rt, alloc, script.as_bytes(), workers, &gate);
@@ -154,9 +174,11 @@ fn an_empty_script_has_one_batch(rt: HostRuntime) -> Result<(), Fail> {
 
 /// To be run with each allocation refused in turn. The writer fails if memory is refused to it.
 #[test]
-fn refused_memory(rt: HostRuntime) -> Result<(), Fail> {
+fn refused_memory(rt: HostRuntime) {
     let alloc = rt.alloc();
-    let (script, want) = (script(alloc)?, text(alloc)?);
+    let (Ok(script), Ok(want)) = (script(alloc), spelled(alloc, ANSWERS)) else {
+        return;
+    };
     let gate = Behind::new(2, 3);
     let (fault, writer) = told(&rt, alloc, script.as_bytes(), 2, &gate);
     match fault {
@@ -166,7 +188,6 @@ fn refused_memory(rt: HostRuntime) -> Result<(), Fail> {
             assert!(rt; want.as_bytes().starts_with(writer.taken()));
         }
     }
-    Ok(())
 }
 
 /// A payment before all items, one after the first commit, and one after the second: the later ones are answered on

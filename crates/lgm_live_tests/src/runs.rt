@@ -5,31 +5,19 @@ use lgm_graph::Known;
 use lgm_par::Gate;
 use lgm_script::{MemorySink, MemorySource, Sink, Source};
 use lgm_server::{LiveReport, RunFault, run_live};
-use lgm_test_scripts::{FREE, Line, Terms};
 use std::alloc::Global;
 use std::marker::Sync;
 use std::random::RandomSource;
 use std::sync::Wait;
 use std::thread::Threads;
 
-/// Two channels from node 0 over node 1 to node 2, and the terms of their first nodes.
-pub const TWO_CHANNELS: [Line; 4] = [
-    Line::Channel(600_000, 0, 1, 100_000, &[]),
-    Line::Channel(600_001, 1, 2, 100_000, &[]),
-    Line::Update(600_000, 0, 1, 1, Terms { delta: 10, ..FREE }),
-    Line::Update(
-        600_001,
-        1,
-        2,
-        1,
-        Terms {
-            delta: 20,
-            base: 200,
-            millionths: 2_000,
-            ..FREE
-        },
-    ),
-];
+/// Two channels from A over B to C, and the terms of their first nodes, in the notation of [`spelled`].
+///
+/// [`spelled`]: lgm_test_scripts::spelled
+pub const TWO_CHANNELS: &str = "m ca(600000x0x0,A,B) all 100000\n\
+    m ca(600000x1x0,B,C) all 100000\n\
+    m cu(600000x0x0,0,1,delta=10) A -\n\
+    m cu(600000x1x0,0,1,delta=20,base=200,millionths=2000) B -\n";
 
 /// Runs a script of the tests' chain by these workers, at least 1 and at most 64.
 pub fn run_by<Rt: Threads + Wait + Sync + RandomSource, R: Source, W: Sink, G: Gate>(

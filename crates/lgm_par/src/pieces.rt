@@ -19,7 +19,7 @@ fn start_of(len: usize, pieces: usize, piece: usize) -> usize
 }
 
 /// The items of a chunk.
-#[tactic(auto, using(crate::proofs::Cutting::starts_rise))]
+#[tactic(auto, using(crate::proofs::PieceLaws::starts_rise))]
 pub(crate) fn piece_at<T>(items: &[T], pieces: usize, piece: usize) -> &[T]
     requires { piece < pieces }
     ensures { result.now ≡ piece_of items.now pieces piece }

@@ -1,5 +1,5 @@
 mod Beginnings
-mod Extending
+mod HistoryLaws
 mod Boards
 mod Worlds
 mod Steps

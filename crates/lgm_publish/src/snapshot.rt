@@ -15,7 +15,7 @@ use std::marker::Model;
 /// The maximum number of operations, each of which adds at most one channel.
 pub const MAX_OPERATIONS: u64 = MAX_CHANNELS as u64;
 
-/// An entry of the log between the two copies: the one that is behind applies it later.
+/// An entry of the log between the two copies: the one that lags applies it later.
 #[derive(Drop)]
 pub(crate) enum LogEntry {
     /// An operation, to be applied.

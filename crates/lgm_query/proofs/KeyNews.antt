@@ -28,7 +28,7 @@ use Rattle.lgm_store.specs.inner.SameKeys.{same_node}
 use Rattle.lgm_store.proofs.Lists.{node_total}
 use Rattle.lgm_query.specs.declared.filter.Filter.{Filter}
 use Rattle.lgm_query.specs.Backlog.{passes, passing_update, behind_announcement, passing_channel, passing_node, backlog, is_among, news}
-use Rattle.lgm_query.specs.KeyNews.{passing_of_channel, passing_of_node, without_known, news_of_channel, news_of_node}
+use Rattle.lgm_query.specs.KeyNews.{passing_of_channel, passing_of_node, not_among, news_of_channel, news_of_node}
 use Rattle.lgm_query.proofs.Subjects.{Subject, of_channel, of_node, subject_of, TellKeys}
 use Rattle.lgm_query.proofs.Ids.{id_test, id_level}
 use Rattle.lgm_query.proofs.KeyNewsLaws.{other_subject, filter-flat_map, flat_map-alike, among_its_row, along_keys, All-given}
@@ -174,17 +174,17 @@ own_rows key c level (row ∷ rows) sorted =
 
 same_as_given : (known given : List (List ℕ)) (messages : List (List ℕ))
     → AllByRecursion (λ m. is_among known m ≡ is_among given m) messages
-    → without_known known messages ≡ without_known given messages
+    → not_among known messages ≡ not_among given messages
 same_as_given known given messages same = filter-alike _ _ messages (All-given _ _ _ messages (λ m is other. ap not is) same same)
 
 -- the news of a row are those of its key
 told : {R K : Type 0} (key : R → K) (c : K → K → Ordering) (about : K → Subject) (h : R → List (List ℕ))
     (g : K → List (List ℕ)) (earlier : List (List ℕ)) (given : K → List (List ℕ)) (rows : List R)
     → ((m : List ℕ) (k : K) → subject_of m ≡ about k → is_among earlier m ≡ is_among (given k) m)
-    → ((row : R) → find (λ other. is_eq (c (key other) (key row))) rows ≡ Some row → without_known (given (key row)) (h row) ≡ g (key row))
+    → ((row : R) → find (λ other. is_eq (c (key other) (key row))) rows ≡ Some row → not_among (given (key row)) (h row) ≡ g (key row))
     → (some : List R) → AllByRecursion (λ row. find (λ other. is_eq (c (key other) (key row))) rows ≡ Some row) some
     → AllByRecursion (λ row. AllByRecursion (About (about (key row))) (h row)) some
-    → AllByRecursion (λ row. without_known earlier (h row) ≡ g (key row)) some
+    → AllByRecursion (λ row. not_among earlier (h row) ≡ g (key row)) some
 told key c about h g earlier given rows among at some own tell =
     All-given _ _ _ some
     (λ row is own_about. same_as_given earlier (given (key row)) (h row)
@@ -192,7 +192,7 @@ told key c about h g earlier given rows among at some own tell =
     own tell
 
 channel_rows : (f : Filter) (before after : Rows) → IsAscending before → IsAscending after → TellKeys before → TellKeys after
-    → without_known (backlog before f) (flat_map (passing_at f after) after.channels)
+    → not_among (backlog before f) (flat_map (passing_at f after) after.channels)
     ≡ flat_map (λ row. news_of_channel f before after (id_of row)) after.channels
 channel_rows f before after before_ascends after_ascends before_tells after_tells =
     filter-flat_map _ (passing_at f after) after.channels
@@ -200,27 +200,27 @@ channel_rows f before after before_ascends after_ascends before_tells after_tell
     (told id_of nat_cmp of_channel (passing_at f after) (news_of_channel f before after) (backlog before f)
     (passing_of_channel f before) after.channels
     (λ m id about. among_channel f before m id before_ascends before_tells about)
-    (λ row is. ap (λ o. without_known (passing_of_channel f before (id_of row)) (option_map_or (passing_at f after) o []))
+    (λ row is. ap (λ o. not_among (passing_of_channel f before (id_of row)) (option_map_or (passing_at f after) o []))
     (sym is ∙ find-same _ _ (λ other. id_test (id_of other) (id_of row)) after.channels))
     after.channels (own_rows id_of nat_cmp id_level after.channels after_ascends.channels)
     (channels_about f after after_tells after.channels after_tells.channels))
 
 node_rows : (f : Filter) (before after : Rows) → IsAscending before → IsAscending after → TellKeys before → TellKeys after
-    → without_known (backlog before f) (flat_map (passing_node f) after.nodes)
+    → not_among (backlog before f) (flat_map (passing_node f) after.nodes)
     ≡ flat_map (λ row. news_of_node f before after (point_of row)) after.nodes
 node_rows f before after before_ascends after_ascends before_tells after_tells =
     filter-flat_map _ (passing_node f) after.nodes
     ∙ flat_map-alike _ (λ row. news_of_node f before after (point_of row)) after.nodes
     (told point_of point_cmp of_node (passing_node f) (news_of_node f before after) (backlog before f) (passing_of_node f before) after.nodes
     (λ m node about. among_node f before m node before_ascends before_tells about)
-    (λ row is. ap (λ o. without_known (passing_of_node f before (point_of row)) (option_map_or (passing_node f) o []))
+    (λ row is. ap (λ o. not_among (passing_of_node f before (point_of row)) (option_map_or (passing_node f) o []))
     (sym is ∙ find-same _ _ (λ other. is_at-point (point_of other) (point_of row)) after.nodes))
     after.nodes (own_rows point_of point_cmp node_equal after.nodes after_ascends.nodes) (nodes_about f after.nodes after_tells.nodes))
 
 channel_news : (f : Filter) (before after : Rows) (ids : List ℕ) → IsAscending before → IsAscending after
     → TellKeys before → TellKeys after → IsStrictlySortedBy nat_cmp ids
     → ((id : ℕ) → list_any (is_at (nat_cmp id)) ids ≡ false → news_of_channel f before after id ≡ [])
-    → without_known (backlog before f) (flat_map (passing_at f after) after.channels) ≡ flat_map (news_of_channel f before after) ids
+    → not_among (backlog before f) (flat_map (passing_at f after) after.channels) ≡ flat_map (news_of_channel f before after) ids
 channel_news f before after ids before_ascends after_ascends before_tells after_tells ascend lie =
     channel_rows f before after before_ascends after_ascends before_tells after_tells
     ∙ along_keys id_of nat_cmp nat_cmp_total exact_unsigned (news_of_channel f before after) after.channels ids after_ascends.channels ascend
@@ -228,13 +228,13 @@ channel_news f before after ids before_ascends after_ascends before_tells after_
   where
     none : (id : ℕ) → find (λ row. is_eq (nat_cmp (id_of row) id)) after.channels ≡ None → news_of_channel f before after id ≡ []
     none id is =
-        ap (λ o. without_known (passing_of_channel f before id) (option_map_or (passing_at f after) o []))
+        ap (λ o. not_among (passing_of_channel f before id) (option_map_or (passing_at f after) o []))
         (sym (find-same _ _ (λ row. id_test (id_of row) id) after.channels) ∙ is)
 
 node_news : (f : Filter) (before after : Rows) (nodes : List Point) → IsAscending before → IsAscending after
     → TellKeys before → TellKeys after → IsStrictlySortedBy point_cmp nodes
     → ((node : Point) → list_any (is_at (point_cmp node)) nodes ≡ false → news_of_node f before after node ≡ [])
-    → without_known (backlog before f) (flat_map (passing_node f) after.nodes) ≡ flat_map (news_of_node f before after) nodes
+    → not_among (backlog before f) (flat_map (passing_node f) after.nodes) ≡ flat_map (news_of_node f before after) nodes
 node_news f before after nodes before_ascends after_ascends before_tells after_tells ascend lie =
     node_rows f before after before_ascends after_ascends before_tells after_tells
     ∙ along_keys point_of point_cmp node_total same_node (news_of_node f before after) after.nodes nodes after_ascends.nodes ascend
@@ -242,7 +242,7 @@ node_news f before after nodes before_ascends after_ascends before_tells after_t
   where
     none : (node : Point) → find (λ row. is_eq (point_cmp (point_of row) node)) after.nodes ≡ None → news_of_node f before after node ≡ []
     none node is =
-        ap (λ o. without_known (passing_of_node f before node) (option_map_or (passing_node f) o []))
+        ap (λ o. not_among (passing_of_node f before node) (option_map_or (passing_node f) o []))
         (sym (find-same _ _ (λ row. is_at-point (point_of row) node) after.nodes) ∙ is)
 
 -- if bytes determine their keys, the news are those of the keys that have any
@@ -251,7 +251,7 @@ pub news_at_keys : (f : Filter) (before after : Rows) (ids : List ℕ) (nodes : 
     → LieAt f before after ids nodes → news before after f
     ≡ flat_map (news_of_channel f before after) ids ++ flat_map (news_of_node f before after) nodes
 news_at_keys f before after ids nodes before_ascends after_ascends before_tells after_tells lie =
-    ap (without_known (backlog before f)) (backlog_rows f after)
+    ap (not_among (backlog before f)) (backlog_rows f after)
     ∙ filter-append _ (flat_map (passing_at f after) after.channels) (flat_map (passing_node f) after.nodes)
     ∙ rw (
       channel_news f before after ids before_ascends after_ascends before_tells after_tells lie.channels_ascend lie.of_channels,
@@ -263,7 +263,7 @@ pub news_at_rows : (f : Filter) (before after : Rows) → IsAscending before →
     → news before after f ≡ flat_map (news_of_channel f before after) (map id_of after.channels)
     ++ flat_map (news_of_node f before after) (map point_of after.nodes)
 news_at_rows f before after before_ascends after_ascends before_tells after_tells =
-    ap (without_known (backlog before f)) (backlog_rows f after)
+    ap (not_among (backlog before f)) (backlog_rows f after)
     ∙ filter-append _ (flat_map (passing_at f after) after.channels) (flat_map (passing_node f) after.nodes)
     ∙ rw (
       channel_rows f before after before_ascends after_ascends before_tells after_tells,

@@ -4,7 +4,7 @@ pub mod RangeLaws
 pub mod Lengths
 pub mod AskedLaws
 pub mod Ids
-pub mod KnownLaws
+pub mod MessageSetLaws
 pub mod CoverLaws
 pub mod PairLaws
 pub mod SentLaws
@@ -13,5 +13,5 @@ pub mod KeyNewsLaws
 pub mod KeyNews
 pub mod Untouched
 pub mod NewsKeyLaws
-pub mod Touching
+pub mod TouchedKeyLaws
 mod Idle

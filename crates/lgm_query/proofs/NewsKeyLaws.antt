@@ -13,7 +13,7 @@ use Rattle.lgm_store.specs.History.{fold_from}
 use Rattle.lgm_store.specs.Spelled.{AreSpelled}
 use Rattle.lgm_query.specs.declared.filter.Filter.{Filter}
 use Rattle.lgm_query.specs.Backlog.{is_among, news}
-use Rattle.lgm_query.specs.KeyNews.{passing_of_channel, passing_of_node, without_known, news_of_channel, news_of_node}
+use Rattle.lgm_query.specs.KeyNews.{passing_of_channel, passing_of_node, not_among, news_of_channel, news_of_node}
 use Rattle.lgm_query.specs.Touched.{Touched, HasTouched}
 use Rattle.lgm_query.specs.ComesOf.{ComesOf}
 use Rattle.lgm_query.proofs.KeyNews.{passing_at, LieAt, news_at_keys}
@@ -21,7 +21,7 @@ use Rattle.lgm_query.proofs.Subjects.{spelled_tell}
 use Rattle.lgm_query.proofs.Untouched.{SameChannel, NoChannel, SameNode, channel_untouched, node_untouched}
 use Rattle.lgm_query.proofs.KeyNewsLaws.{All-given}
 
-all_known : (known messages : List (List ℕ)) → AllByRecursion (λ m. is_among known m ≡ true) messages → without_known known messages ≡ []
+all_known : (known messages : List (List ℕ)) → AllByRecursion (λ m. is_among known m ≡ true) messages → not_among known messages ≡ []
 all_known known [] all = refl
 all_known known (m ∷ ms) all = rw (all.0, all_known known ms all.1) refl
 
@@ -30,7 +30,7 @@ each_known [] = tt
 each_known (m ∷ ms) = (rw (nat_list_eq_equiv.refl m) refl, All-given _ _ _ ms (λ x is other. rw is (or_right _ true refl)) (each_known ms) (each_known ms))
 
 -- nothing is new compared with itself
-nothing_new : (messages : List (List ℕ)) → without_known messages messages ≡ []
+nothing_new : (messages : List (List ℕ)) → not_among messages messages ≡ []
 nothing_new messages = all_known messages messages (each_known messages)
 
 -- the row that is found at an id has it

@@ -11,7 +11,7 @@ use Rattle.lgm_store.specs.declared.channel_info.ChannelInfo.{ChannelInfo}
 use Rattle.lgm_query.specs.declared.filter.Filter.{Filter}
 use Rattle.lgm_query.specs.declared.sent_with.SentWith.{SentWith}
 use Rattle.lgm_query.specs.Backlog.{passes, passing_update, behind_announcement, passing_channel, is_among}
-use Rattle.lgm_query.specs.KeyNews.{without_known}
+use Rattle.lgm_query.specs.KeyNews.{not_among}
 use Rattle.lgm_query.specs.inner.SentWith.{is_sent_with, sent_with, update_message, passes_update, passed_with, unless_passed}
 
 first_alone : (a b : Bool) → (((a || (b || false)) && true) || false) ≡ (a || (b || false))
@@ -73,7 +73,7 @@ Tells before sent None = Unit {0}
 Tells before sent (Some message) = sent ≡ sent_with before (Some message)
 
 unless_passed-message : (f : Filter) (before : Option ChannelInfo) (message : List ℕ)
-    → option_to_list (unless_passed f before (sent_with before (Some message)) (Some message)) ≡ without_known (passed_before f before) (message ∷ [])
+    → option_to_list (unless_passed f before (sent_with before (Some message)) (Some message)) ≡ not_among (passed_before f before) (message ∷ [])
 unless_passed-message f None message = refl
 unless_passed-message f (Some stored) message = rw (passed_with-is_among f stored message) (by (is_among (passing_channel f stored) message))
   where
@@ -82,7 +82,7 @@ unless_passed-message f (Some stored) message = rw (passed_with-is_among f store
     by false = refl
 
 unless_passed-told : (f : Filter) (before : Option ChannelInfo) (sent : SentWith) (message : Option (List ℕ)) → Tells before sent message
-    → option_to_list (unless_passed f before sent message) ≡ without_known (passed_before f before) (option_to_list message)
+    → option_to_list (unless_passed f before sent message) ≡ not_among (passed_before f before) (option_to_list message)
 unless_passed-told f None sent None told = refl
 unless_passed-told f (Some stored) sent None told = refl
 unless_passed-told f before sent (Some message) told = rw told (unless_passed-message f before message)
@@ -117,7 +117,7 @@ pub news_by_message : (f : Filter) (before : Option ChannelInfo) (after : Channe
     (is_some (passing_update f after.first) || is_some (passing_update f after.second)) after.channel.raw))
     ++ option_to_list (unless_passed f before first (passing_update f after.first))
     ++ option_to_list (unless_passed f before second (passing_update f after.second))
-    ≡ without_known (passed_before f before) (passing_channel f after)
+    ≡ not_among (passed_before f before) (passing_channel f after)
 news_by_message f before after announcement first second of_announcement of_first of_second =
     let is_any = is_some (passing_update f after.first) || is_some (passing_update f after.second) in
     let row = then_some is_any after.channel.raw in
@@ -129,9 +129,9 @@ news_by_message f before after announcement first second of_announcement of_firs
       unless_passed-told f before (sent_with before (update_message after.first)) one (tells_update f before after.first),
       unless_passed-told f before (sent_with before (update_message after.second)) two (tells_update f before after.second),
     ) (sym (
-    ap (without_known (passed_before f before)) (behind_announcement-parts after.channel one two)
+    ap (not_among (passed_before f before)) (behind_announcement-parts after.channel one two)
     ∙ filter-append _ (option_to_list row ++ option_to_list one) (option_to_list two)
-    ∙ ap (λ (messages : List (List ℕ)). messages ++ without_known (passed_before f before)
+    ∙ ap (λ (messages : List (List ℕ)). messages ++ not_among (passed_before f before)
     (option_to_list two)) (filter-append _ (option_to_list row) (option_to_list one))
     ))
     )

@@ -17,8 +17,8 @@ use Rattle.lgm_store.specs.Rows.{channel_of, update_of, node_of, ends_channel, e
 use Rattle.lgm_store.specs.History.{channels_without, ended_nodes, with_banned, allowed_channels, without_stored}
 use Rattle.lgm_store.specs.History.{banned_channels, banning, absorbed, fold_from}
 use Rattle.lgm_store.proofs.ListLaws.{All-each, All-to, find-kept, find-gone}
-use Rattle.lgm_store.proofs.Finding.{channel_of-put, update_of-put, node_of-put}
-use Rattle.lgm_store.proofs.Ascending.{IsAscending-absorbed}
+use Rattle.lgm_store.proofs.FoundRowLaws.{channel_of-put, update_of-put, node_of-put}
+use Rattle.lgm_store.proofs.AscendingRowLaws.{IsAscending-absorbed}
 use Rattle.lgm_store.proofs.Points.{same_point}
 use Rattle.lgm_query.specs.Touched.{touches_channel, touches_node}
 

@@ -16,14 +16,14 @@ abbrev pub passing_of_node : Filter → Rows → Point → List (List ℕ)
 passing_of_node f rows node = option_map_or (passing_node f) (node_of rows.nodes node) []
 
 -- messages that aren't among others
-abbrev pub without_known : List (List ℕ) → List (List ℕ) → List (List ℕ)
-without_known known messages = filter (λ message. not (is_among known message)) messages
+abbrev pub not_among : List (List ℕ) → List (List ℕ) → List (List ℕ)
+not_among others messages = filter (λ message. not (is_among others message)) messages
 
 -- what passes later and didn't before, of a channel and of a node
 abbrev pub news_of_channel : Filter → Rows → Rows → ℕ → List (List ℕ)
 news_of_channel f before after id =
-    without_known (passing_of_channel f before id) (passing_of_channel f after id)
+    not_among (passing_of_channel f before id) (passing_of_channel f after id)
 
 abbrev pub news_of_node : Filter → Rows → Rows → Point → List (List ℕ)
 news_of_node f before after node =
-    without_known (passing_of_node f before node) (passing_of_node f after node)
+    not_among (passing_of_node f before node) (passing_of_node f after node)

@@ -2,7 +2,7 @@
 
 ghost use Rattle.std.specs.Prelude.{◌≡◌, ℕ, List, IfOk};
 ghost use Rattle.lgm_query.specs.Backlog.{is_among, news};
-ghost use Rattle.lgm_query.specs.inner.MessageSet.{is_known};
+ghost use Rattle.lgm_query.specs.inner.MessageSet.{has_message};
 
 use crate::reply::{Replies, ReplyMessage, backlog};
 use lgm_store::Map;
@@ -48,23 +48,23 @@ pub fn news<'a>(
     ensures { IfOk result (λ replies. replies ≡ news before.now after.now filter.now) }
 {
     let earlier = backlog(alloc, before, filter)?;
-    let known = known(alloc, earlier.as_slice())?;
+    let earlier_set = set_of(alloc, earlier.as_slice())?;
     let mut news = backlog(alloc, after, filter)?.into_vec();
-    news.retain(|message| !known.contains(message.as_slice()));
+    news.retain(|message| !earlier_set.contains(message.as_slice()));
     Ok(Replies::from_vec(news))
 }
 
 /// The set of these messages.
-fn known<'a>(
+fn set_of<'a>(
     alloc: Global,
     messages: &'a [ReplyMessage<'_>],
 ) -> Result<BTreeSet<&'a [u8]>, AllocError>
-    ensures { IfOk result (λ known. (message : List ℕ)
-        → is_known known.keys message ≡ is_among messages.now message) }
+    ensures { IfOk result (λ set. (message : List ℕ)
+        → has_message set.keys message ≡ is_among messages.now message) }
 {
-    let mut known = BTreeSet::new(alloc);
+    let mut set = BTreeSet::new(alloc);
     for message in messages {
-        known.insert(message.as_slice())?;
+        set.insert(message.as_slice())?;
     }
-    Ok(known)
+    Ok(set)
 }

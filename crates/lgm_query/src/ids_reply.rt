@@ -32,13 +32,13 @@ pub fn answer_ids<'a>(
 ) -> Result<Replies<'a>, AllocError>
     ensures { IfOk result (λ replies. replies ≡ ids_reply chain.now map.now query.now) }
 {
-    let is_known = query.chain_hash == *chain;
-    let mut messages = if is_known {
+    let is_own_chain = query.chain_hash == *chain;
+    let mut messages = if is_own_chain {
         stored_messages(alloc, map, query)?
     } else {
         Vec::new(alloc)
     };
-    messages.push(ReplyMessage::owned(end(alloc, query, u8::from(is_known))?))?;
+    messages.push(ReplyMessage::owned(end(alloc, query, u8::from(is_own_chain))?))?;
     Ok(Replies::from_vec(messages))
 }
 

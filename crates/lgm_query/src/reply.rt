@@ -13,11 +13,11 @@ use std::marker::Model;
 /// A message of a reply: borrowed from a map, or owned if it was made for the reply. Contracts see its bytes.
 #[derive(Debug, Drop)]
 pub struct ReplyMessage<'a> {
-    source: Source<'a>,
+    bytes: MessageBytes<'a>,
 }
 
 #[derive(Debug, Drop)]
-enum Source<'a> {
+enum MessageBytes<'a> {
     Borrowed(&'a [u8]),
     Owned(Bytes),
 }
@@ -29,7 +29,7 @@ impl<'a> Model for ReplyMessage<'a> {
 
     ghost use Rattle.lgm_query.specs.inner.ReplyMessage.{bytes_in};
 
-    ghost view = { λ r. bytes_in r.source };
+    ghost view = { λ r. bytes_in r.bytes };
 }
 
 impl<'a> ReplyMessage<'a> {
@@ -40,7 +40,7 @@ impl<'a> ReplyMessage<'a> {
         ensures { result ≡ message.now }
     {
         ReplyMessage {
-            source: Source::Borrowed(message),
+            bytes: MessageBytes::Borrowed(message),
         }
     }
 
@@ -49,7 +49,7 @@ impl<'a> ReplyMessage<'a> {
         ensures { result ≡ message }
     {
         ReplyMessage {
-            source: Source::Owned(message),
+            bytes: MessageBytes::Owned(message),
         }
     }
 
@@ -57,9 +57,9 @@ impl<'a> ReplyMessage<'a> {
     pub fn as_slice(&self) -> &[u8]
         ensures { result.now ≡ self.now }
     {
-        match &self.source {
-            Source::Borrowed(message) => message,
-            Source::Owned(message) => message.as_slice(),
+        match &self.bytes {
+            MessageBytes::Borrowed(message) => message,
+            MessageBytes::Owned(message) => message.as_slice(),
         }
     }
 }

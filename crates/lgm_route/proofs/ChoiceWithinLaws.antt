@@ -18,7 +18,7 @@ use Rattle.lgm_route.specs.Within.{delay, IsUsableWithin, IsFoundWithin, IsAnswe
 use Rattle.lgm_route.specs.Within.{walks_within, least_walk_within, answer_within_of}
 use Rattle.lgm_route.proofs.Orders.{NotAfter-excludes}
 use Rattle.lgm_route.proofs.Visits.{least-unique-within}
-use Rattle.lgm_route.proofs.Choosing.{le_true, true_le, usable_found, found_usable, folded, NoneBefore, point_apart, HaveSame, same-permuted, usable_over}
+use Rattle.lgm_route.proofs.ChoiceLaws.{le_true, true_le, usable_found, found_usable, folded, NoneBefore, point_apart, HaveSame, same-permuted, usable_over}
 
 timely_found : (limit : ℕ) (edges : List PointEdge) (request : Request) (walk : List PointEdge) → IsUsableWithin edges request limit walk
     → Among (walks_within limit edges request) walk

@@ -8,10 +8,10 @@ pub mod RelaxationLaws
 pub mod Bounded
 pub mod ForwardStates
 pub mod Searches
-pub mod Crossing
+pub mod PointWalkLaws
 pub mod HopLaws
 pub mod Visits
-pub mod Choosing
+pub mod ChoiceLaws
 pub mod ChoiceWithinLaws
 pub mod WithinLaws
-mod Narrowing
+mod NarrowedEdgeLaws

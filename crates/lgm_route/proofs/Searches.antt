@@ -10,8 +10,8 @@ use Rattle.lgm_route.specs.inner.Numbered.{sent, IsLeast}
 use Rattle.lgm_route.specs.inner.Searching.{Low, cost, label_at, edge_at, Spells, first_of, bound_of, number_at, IsSettled, AreLabels, IsFound}
 use Rattle.lgm_route.specs.inner.Searching.{Grows, IsOffered, IsBetter, RelaxesOn, AreSpelled, SomeRest, IsNoBetter, IsDominatorOf}
 use Rattle.lgm_route.specs.inner.Relaxations.{IsRelaxationOf, AreRelaxations}
-use Rattle.lgm_route.specs.inner.State.{Ground, State, state_of, IsGround, IsSearch, Extends, IsSettledAt, IsMarkedAt}
-use Rattle.lgm_route.specs.inner.State.{AreRelaxationsAt, IsRelaxedOn, IsLeftAt, IsFinished, bound_in}
+use Rattle.lgm_route.specs.inner.SearchState.{Ground, SearchState, state_of, IsGround, IsSearch, Extends, IsSettledAt, IsMarkedAt}
+use Rattle.lgm_route.specs.inner.SearchState.{AreRelaxationsAt, IsRelaxedOn, IsLeftAt, IsFinished, bound_in}
 use Rattle.lgm_route.proofs.Rests.{trichotomy}
 use Rattle.lgm_route.proofs.Labels.{grows-refl, grows-trans, found-grows, no_better-grows, none_better}
 use Rattle.lgm_route.proofs.Steps.{still_settled, settled_left, settled_hopeless}
@@ -22,10 +22,10 @@ use Rattle.lgm_route.proofs.RelaxationLaws.{leads_later, led_later, all_taken}
 -- ---- one search, later
 
 -- facts about the input hold of the later search too
-abbrev Growing : Ground → State → State → Type 0
+abbrev Growing : Ground → SearchState → SearchState → Type 0
 Growing ground before after = Grows ground.graph ground.request ground.upper_bound before.labels before.best after.labels after.best
 
-pub extends-trans : (a b c : State) → Extends a b → Extends b c → Extends a c
+pub extends-trans : (a b c : SearchState) → Extends a b → Extends b c → Extends a c
 extends-trans a b c h k = record {
   ground = k.ground ∙ h.ground;
   grows = grows-trans a.ground.graph a.ground.request a.ground.upper_bound a.labels b.labels c.labels a.best b.best c.best h.grows
@@ -33,22 +33,22 @@ extends-trans a b c h k = record {
   still = λ i m. k.still i (h.still i m);
 }
 
-abbrev Relaxing : Ground → List Label → ℕ → State → Edge → Type 0
+abbrev Relaxing : Ground → List Label → ℕ → SearchState → Edge → Type 0
 Relaxing ground labels i after edge = RelaxesOn ground.graph ground.request ground.low ground.upper_bound labels i after.labels after.best edge
 
 -- relaxing over an edge, seen from an earlier state, or in a later one
-pub passed_from : (a b c : State) (i : ℕ) (edge : Edge) → Extends a b → i < length a.labels → IsRelaxedOn b i edge c → IsRelaxedOn a i edge c
+pub passed_from : (a b c : SearchState) (i : ℕ) (edge : Edge) → Extends a b → i < length a.labels → IsRelaxedOn b i edge c → IsRelaxedOn a i edge c
 passed_from a b c i edge h within passed =
     passes_from a.ground.graph a.ground.request a.ground.low a.ground.upper_bound i a.labels a.best b.labels b.best c.labels c.best edge h.grows within
     (subst (λ g. Relaxing g b.labels i c edge) h.ground passed)
 
-pub passed_later : (a b c : State) (i : ℕ) (edge : Edge) → Extends a b → Extends b c → IsRelaxedOn a i edge b → IsRelaxedOn a i edge c
+pub passed_later : (a b c : SearchState) (i : ℕ) (edge : Edge) → Extends a b → Extends b c → IsRelaxedOn a i edge b → IsRelaxedOn a i edge c
 passed_later a b c i edge h k passed =
     passes_later a.ground.graph a.ground.request a.ground.low a.ground.upper_bound i a.labels b.labels b.best c.labels c.best edge
     (subst (λ g. Growing g b c) h.ground k.grows) passed
 
 -- relaxed over one more of several edges
-pub passed_more : (a b c : State) (at : ℕ → Edge) (i place : ℕ) → i < length a.labels → Extends a b → Extends b c →
+pub passed_more : (a b c : SearchState) (at : ℕ → Edge) (i place : ℕ) → i < length a.labels → Extends a b → Extends b c →
     ((j : ℕ) → j < place → IsRelaxedOn a i (at j) b) → IsRelaxedOn b i (at place) c → (j : ℕ) → j < place + 1 → IsRelaxedOn a i (at j) c
 passed_more a b c at i place within h k before new j to = by (trichotomy j place)
   where
@@ -58,7 +58,7 @@ passed_more a b c at i place within h k before new j to = by (trichotomy j place
     by (inr (inr p)) = absurd (omega arith)
 
 -- over all edges into the node
-pub left_all : (a b : State) (i : ℕ) → IsGround a.ground →
+pub left_all : (a b : SearchState) (i : ℕ) → IsGround a.ground →
     ((j : ℕ) → j < length (edges_into a.ground.graph (label_at a.labels i).node)
     → IsRelaxedOn a i (edge_at (edges_into a.ground.graph (label_at a.labels i).node) j) b) →
     IsLeftAt a i b
@@ -68,7 +68,7 @@ left_all a b i ground passed =
 -- ---- what the fields of a search preserve
 
 -- more labels, and a better walk
-pub search_grown : (s : State) (labels : List Label) (best : Option Label) → IsSearch s → AreLabels s.ground.graph s.ground.request labels →
+pub search_grown : (s : SearchState) (labels : List Label) (best : Option Label) → IsSearch s → AreLabels s.ground.graph s.ground.request labels →
     IsFound s.ground.graph s.ground.request labels s.ground.upper_bound best
     → Grows s.ground.graph s.ground.request s.ground.upper_bound s.labels s.best labels best →
     IsSearch (record s { labels = labels; best = best })
@@ -80,7 +80,7 @@ search_grown s labels best is labelled found grows = record {
 }
 
 -- a label was offered
-pub offered_grows : (s : State) (new : Label) (labels : List Label) → IsOffered s.ground.graph s.ground.request s.labels new labels →
+pub offered_grows : (s : SearchState) (new : Label) (labels : List Label) → IsOffered s.ground.graph s.ground.request s.labels new labels →
     Grows s.ground.graph s.ground.request s.ground.upper_bound s.labels s.best labels s.best
 offered_grows s new labels offered = record {
   more = offered.more;
@@ -90,7 +90,7 @@ offered_grows s new labels offered = record {
       (no_better-grows s.ground.graph s.ground.request s.labels offered.more s.ground.upper_bound s.best walk h);
 }
 
-pub search_offered : (s : State) (new : Label) (labels : List Label) → IsSearch s → IsOffered s.ground.graph s.ground.request s.labels new labels →
+pub search_offered : (s : SearchState) (new : Label) (labels : List Label) → IsSearch s → IsOffered s.ground.graph s.ground.request s.labels new labels →
     IsSearch (record s { labels = labels })
 search_offered s new labels is offered =
     search_grown s labels s.best is offered.labelled
@@ -98,51 +98,51 @@ search_offered s new labels is offered =
     (found-grows s.ground.graph s.ground.request s.labels offered.more s.ground.upper_bound s.best is.found))
     (offered_grows s new labels offered)
 
-pub extends_offered : (s : State) (new : Label) (labels : List Label) → IsOffered s.ground.graph s.ground.request s.labels new labels →
+pub extends_offered : (s : SearchState) (new : Label) (labels : List Label) → IsOffered s.ground.graph s.ground.request s.labels new labels →
     Extends s (record s { labels = labels })
 extends_offered s new labels offered = record { ground = refl; grows = offered_grows s new labels offered; still = λ i h. h }
 
 -- a walk became the best, or not
-pub better_grows : (s : State) (new : Label) (best : Option Label)
+pub better_grows : (s : SearchState) (new : Label) (best : Option Label)
     → IsBetter s.ground.graph s.ground.request s.labels s.ground.upper_bound s.best new best →
     Grows s.ground.graph s.ground.request s.ground.upper_bound s.labels s.best s.labels best
 better_grows s new best better =
     let same = grows-refl s.ground.graph s.ground.request s.ground.upper_bound s.labels s.best in
     record { more = same.more; is = same.is; lower = better.lower; first = better.keeps }
 
-pub search_better : (s : State) (new : Label) (best : Option Label) → IsSearch s
+pub search_better : (s : SearchState) (new : Label) (best : Option Label) → IsSearch s
     → IsBetter s.ground.graph s.ground.request s.labels s.ground.upper_bound s.best new best →
     IsSearch (record s { best = best })
 search_better s new best is better = search_grown s s.labels best is is.labelled better.found_is (better_grows s new best better)
 
-pub extends_better : (s : State) (new : Label) (best : Option Label)
+pub extends_better : (s : SearchState) (new : Label) (best : Option Label)
     → IsBetter s.ground.graph s.ground.request s.labels s.ground.upper_bound s.best new best →
     Extends s (record s { best = best })
 extends_better s new best better = record { ground = refl; grows = better_grows s new best better; still = λ i h. h }
 
 -- ---- settling
 
-pub spelled : (s : State) → IsSearch s → AreSpelled s.ground.graph s.labels
+pub spelled : (s : SearchState) → IsSearch s → AreSpelled s.ground.graph s.labels
 spelled s is = spelled_labels s.ground.graph s.ground.request s.labels is.labelled
 
-abbrev Settled : Ground → State → ℕ → Type 0
+abbrev Settled : Ground → SearchState → ℕ → Type 0
 Settled ground s i = IsSettled ground.graph ground.request ground.low ground.upper_bound s.labels s.best (label_at s.labels i)
 
 -- a label that was relaxed is settled
-pub settled_led : (a b : State) (i : ℕ) → IsSearch a → Extends a b → i < length a.labels → IsLeftAt a i b → IsSettledAt b i
+pub settled_led : (a b : SearchState) (i : ℕ) → IsSearch a → Extends a b → i < length a.labels → IsLeftAt a i b → IsSettledAt b i
 settled_led a b i is h within left =
     subst (λ g. Settled g b i) (sym h.ground)
     (settled_left a.ground.graph a.ground.request a.ground.low a.ground.upper_bound a.labels a.best b.labels b.best
     i h.grows within (is.labelled.sound i within) left)
 
 -- so is a pruned one
-pub settled_vain : (s : State) (i : ℕ) → IsSearch s → i < length s.labels →
+pub settled_vain : (s : SearchState) (i : ℕ) → IsSearch s → i < length s.labels →
     bound_in s ≤ cost ((label_at s.labels i).amount + number_at s.ground.low.fees (label_at s.labels i).node) (label_at s.labels i).hops → IsSettledAt s i
 settled_vain s i is within h =
     settled_hopeless s.ground.graph s.ground.request s.ground.low s.ground.upper_bound s.labels s.best (label_at s.labels i) (is.labelled.sound i within) h
 
 -- and one that is dominated by a settled one
-pub settled_by : (a b : State) (i place : ℕ) → IsSearch a → IsSearch b → Extends a b → i < length a.labels
+pub settled_by : (a b : SearchState) (i place : ℕ) → IsSearch a → IsSearch b → Extends a b → i < length a.labels
     → IsDominatorOf a.ground.graph a.labels i place → IsMarkedAt b place → IsSettledAt b i
 settled_by a b i place is later h within stands marked =
     subst (λ g. Settled g b i) (sym h.ground)
@@ -150,11 +150,11 @@ settled_by a b i place is later h within stands marked =
     (subst (λ g. Settled g b place) h.ground (later.settled place marked).1))
 
 -- the bound never rises
-pub bound_falls : (a b : State) → Extends a b → bound_in b ≤ bound_in a
+pub bound_falls : (a b : SearchState) → Extends a b → bound_in b ≤ bound_in a
 bound_falls a b h = omega (arith, h.grows.lower, ap (λ (g : Ground). bound_of g.upper_bound b.best) h.ground)
 
 -- one more label is marked
-pub marked_more : (a b : State) (i : ℕ) → Extends a b → ((j : ℕ) → j < i → IsMarkedAt a j) → IsMarkedAt b i → (j : ℕ) → j < i + 1 → IsMarkedAt b j
+pub marked_more : (a b : SearchState) (i : ℕ) → Extends a b → ((j : ℕ) → j < i → IsMarkedAt a j) → IsMarkedAt b i → (j : ℕ) → j < i + 1 → IsMarkedAt b j
 marked_more a b i h before here j to = by (trichotomy j i)
   where
     by : (j < i) ⊎ (j ≡ i) ⊎ (i < j) → IsMarkedAt b j
@@ -163,13 +163,13 @@ marked_more a b i h before here j to = by (trichotomy j i)
     by (inr (inr p)) = absurd (omega arith)
 
 -- once all labels are marked the search is finished
-pub finished : (s : State) → IsSearch s → ((i : ℕ) → i < length s.labels → IsMarkedAt s i) → IsFinished s
+pub finished : (s : SearchState) → IsSearch s → ((i : ℕ) → i < length s.labels → IsMarkedAt s i) → IsFinished s
 finished s is all =
     none_better s.ground.graph s.ground.request s.ground.low s.ground.upper_bound s.labels s.best is.labelled
     is.ground.low (λ i within. (is.settled i (all i within)).1) is.found
 
 -- the best walk is the least
-pub walk_least : (s : State) (best : Label) (walk : List Edge) → s.best ≡ Some best → IsSearch s → IsFinished s →
+pub walk_least : (s : SearchState) (best : Label) (walk : List Edge) → s.best ≡ Some best → IsSearch s → IsFinished s →
     Spells s.ground.graph s.labels best walk × (length walk ≡ best.hops) →
     IsLeast (edges s.ground.graph) s.ground.request walk × (sent s.ground.request.amount walk < 2 ^ 64)
 walk_least s best walk some is finished spelled =
@@ -213,22 +213,22 @@ begun graph request low upper_bound listed long are_low small labels one done no
 
 -- ---- applying relaxations
 
-abbrev Led : Ground → State → ℕ → List Label → Type 0
+abbrev Led : Ground → SearchState → ℕ → List Label → Type 0
 Led ground s i relaxations = AreRelaxations ground.graph ground.request ground.low (bound_of ground.upper_bound s.best) s.labels i relaxations
 
-pub leads_at_later : (a b : State) (i : ℕ) (relaxations : List Label) → Extends a b → i < length a.labels → AreRelaxationsAt a i relaxations → AreRelaxationsAt b i relaxations
+pub leads_at_later : (a b : SearchState) (i : ℕ) (relaxations : List Label) → Extends a b → i < length a.labels → AreRelaxationsAt a i relaxations → AreRelaxationsAt b i relaxations
 leads_at_later a b i relaxations h within are =
     subst (λ g. Led g b i relaxations) (sym h.ground)
     (leads_later a.ground.graph a.ground.request a.ground.low a.ground.upper_bound a.labels a.best b.labels b.best i relaxations h.grows within are)
 
 -- a relaxation extends its parent
-pub led_self : (s : State) (i : ℕ) (edge : Edge) (new : Label) → IsRelaxationOf s.ground.graph s.ground.request s.labels i edge new →
+pub led_self : (s : SearchState) (i : ℕ) (edge : Edge) (new : Label) → IsRelaxationOf s.ground.graph s.ground.request s.labels i edge new →
     IsRelaxationOf s.ground.graph s.ground.request s.labels new.parent (first_of s.ground.graph s.labels new) new
 led_self s i edge new led =
     subst (λ n. IsRelaxationOf s.ground.graph s.ground.request s.labels n (first_of s.ground.graph s.labels new) new) (sym led.parent)
     (subst (λ e. IsRelaxationOf s.ground.graph s.ground.request s.labels i e new) (sym led.over) led)
 
-pub passed_self : (a b : State) (i : ℕ) (edge : Edge) (new : Label) → IsRelaxationOf a.ground.graph a.ground.request a.labels i edge new →
+pub passed_self : (a b : SearchState) (i : ℕ) (edge : Edge) (new : Label) → IsRelaxationOf a.ground.graph a.ground.request a.labels i edge new →
     IsRelaxedOn a new.parent (first_of a.ground.graph a.labels new) b → IsRelaxedOn a i edge b
 passed_self a b i edge new led passed = subst (λ n. IsRelaxedOn a n edge b) led.parent (subst (λ e. IsRelaxedOn a new.parent e b) led.over passed)
 
@@ -236,14 +236,14 @@ passed_self a b i edge new led passed = subst (λ n. IsRelaxedOn a n edge b) led
 abbrev IsLedBy : Ground → List Label → ℕ → Edge → Label → Type 0
 IsLedBy ground labels i edge new = IsRelaxationOf ground.graph ground.request labels i edge new
 
-pub led_at_later : (a b : State) (i : ℕ) (edge : Edge) (new : Label) → Extends a b → i < length a.labels
+pub led_at_later : (a b : SearchState) (i : ℕ) (edge : Edge) (new : Label) → Extends a b → i < length a.labels
     → IsRelaxationOf a.ground.graph a.ground.request a.labels i edge new →
     IsRelaxationOf b.ground.graph b.ground.request b.labels i edge new
 led_at_later a b i edge new h within led =
     subst (λ g. IsLedBy g b.labels i edge new) (sym h.ground)
     (led_later a.ground.graph a.ground.request a.ground.low a.ground.upper_bound a.labels a.best b.labels b.best h.grows i within edge new led)
 
-pub left_taken : (a b : State) (i : ℕ) (relaxations : List Label) → IsGround a.ground → Extends a b → AreRelaxationsAt a i relaxations →
+pub left_taken : (a b : SearchState) (i : ℕ) (relaxations : List Label) → IsGround a.ground → Extends a b → AreRelaxationsAt a i relaxations →
     ((k : ℕ) → k < length relaxations → IsRelaxedOn a i (first_of a.ground.graph a.labels (label_at relaxations k)) b) → IsLeftAt a i b
 left_taken a b i relaxations ground h are taken =
     all_taken a.ground.graph a.ground.request a.ground.low a.ground.upper_bound i a.labels a.best b.labels b.best relaxations ground.listed h.grows are taken

@@ -4,5 +4,5 @@ pub mod Searching
 pub mod Bounding
 pub mod ForwardState
 pub mod Relaxations
-pub mod State
+pub mod SearchState
 pub mod Best

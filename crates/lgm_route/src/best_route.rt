@@ -5,7 +5,7 @@ ghost use Rattle.std.specs.Option.{option_map};
 ghost use Rattle.lgm_graph.specs.Graph.{edges, point_edges, AreListed};
 ghost use Rattle.lgm_route.specs.Answers.{refusal, IsAnswer};
 ghost use Rattle.lgm_route.specs.inner.Best.{IsBestWalk, IsNumberingOf, IsAnswerFor, IsBestFor, IsFoundFor};
-ghost use Rattle.lgm_route.specs.inner.State.{IsBegun, IsFinished};
+ghost use Rattle.lgm_route.specs.inner.SearchState.{IsBegun, IsFinished};
 ghost use Rattle.lgm_route.specs.declared.fault.RouteFault.{RouteFault};
 ghost use Rattle.lgm_route.specs.declared.within.LimitedFault.TheVariants.{Fault, Undecided};
 ghost use Rattle.lgm_route.specs.inner.Searching.{IsUpperBound};

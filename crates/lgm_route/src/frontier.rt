@@ -3,7 +3,7 @@
 ghost use Rattle.std.specs.Prelude.{◌≡◌, ◌<◌, ◌≤◌, ◌++◌, length, All, IfOk};
 ghost use Rattle.std.specs.List.{AllZip};
 ghost use Rattle.lgm_route.specs.inner.Relaxations.{in_list};
-ghost use Rattle.lgm_route.specs.inner.State.{AreRelaxationsAt, Extends};
+ghost use Rattle.lgm_route.specs.inner.SearchState.{AreRelaxationsAt, Extends};
 
 use crate::label::Label;
 use crate::search::Search;

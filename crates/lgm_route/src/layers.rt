@@ -1,7 +1,7 @@
 //! Settling labels by several workers: frontier by frontier, then best-first, and then by layers.
 
 ghost use Rattle.std.specs.Prelude.{◌<◌, ◌≤◌, length, All, IfOk};
-ghost use Rattle.lgm_route.specs.inner.State.{Extends};
+ghost use Rattle.lgm_route.specs.inner.SearchState.{Extends};
 
 use crate::queue::Queue;
 use crate::search::Search;

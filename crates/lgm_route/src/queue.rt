@@ -1,7 +1,7 @@
 //! Settling labels best-first (A\*), and the frontiers of those with the least lower bound.
 
 ghost use Rattle.std.specs.Prelude.{◌<◌, length, All, IfOk, IfSome};
-ghost use Rattle.lgm_route.specs.inner.State.{Extends};
+ghost use Rattle.lgm_route.specs.inner.SearchState.{Extends};
 
 use crate::entry::Entry;
 use crate::label::cost;

@@ -3,7 +3,7 @@
 ghost use Rattle.std.specs.Prelude.{◌≡◌, ◌<◌, ◌≤◌, length, IfOk, IfSome};
 ghost use Rattle.lgm_route.specs.inner.Searching.{label_at, first_of};
 ghost use Rattle.lgm_route.specs.inner.Relaxations.{IsRelaxationOf};
-ghost use Rattle.lgm_route.specs.inner.State.{Extends, IsIntoAt, IsRelaxationAt, IsRelaxedOn, IsLeftAt, bound_in};
+ghost use Rattle.lgm_route.specs.inner.SearchState.{Extends, IsIntoAt, IsRelaxationAt, IsRelaxedOn, IsLeftAt, bound_in};
 
 use crate::label::{Label, cost};
 use crate::search::Search;

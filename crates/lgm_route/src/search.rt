@@ -6,7 +6,7 @@ ghost use Rattle.lgm_route.specs.inner.Bounding.{AreLow};
 ghost use Rattle.lgm_route.specs.inner.Numbered.{IsDelayOver};
 ghost use Rattle.lgm_route.specs.inner.Searching.{label_at, number_at, SomeRest, SomeWalk, IsOffered, IsBetter};
 ghost use Rattle.lgm_route.specs.inner.Searching.{IsUpperBound, IsDominatorOf, cost};
-ghost use Rattle.lgm_route.specs.inner.State.{IsSearch, Extends, IsSettledAt, IsMarkedAt, IsFinished, IsPruned, bound_in};
+ghost use Rattle.lgm_route.specs.inner.SearchState.{IsSearch, Extends, IsSettledAt, IsMarkedAt, IsFinished, IsPruned, bound_in};
 ghost use Rattle.lgm_route.specs.inner.Best.{IsBestWalk};
 ghost use Rattle.std.specs.Option.{option_map};
 
@@ -47,9 +47,9 @@ pub(crate) struct Search<'a, V: RoutingGraph> {
 }
 
 impl<'a, V: RoutingGraph> Model for Search<'a, V> {
-    ghost use Rattle.lgm_route.specs.inner.State.{State, state_of, IsSearch};
+    ghost use Rattle.lgm_route.specs.inner.SearchState.{SearchState, state_of, IsSearch};
 
-    ghost Value = { State };
+    ghost Value = { SearchState };
 
     ghost view = { λ s. state_of (V.graph s.view.now) s.request s.low s.upper_bound s.labels.items s.best s.done.items };
 

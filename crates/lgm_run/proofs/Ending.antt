@@ -7,8 +7,8 @@ use Rattle.lgm_wire.specs.declared.chain_hash.ChainHash.{ChainHash}
 use Rattle.lgm_script.specs.declared.output.SendFault.TheVariants.{Write as SendWrite}
 use Rattle.lgm_script.specs.Device.{Input, Written, Appends, AppendsSome}
 use Rattle.lgm_script.specs.Output.{OutputState, Tells, TellsSome}
-use Rattle.lgm_script.proofs.Appending.{appends_nothing}
-use Rattle.lgm_script.proofs.Telling.{taken_all, taken_some, some_flushed, some_flushed_part}
+use Rattle.lgm_script.proofs.AppendedBytesLaws.{appends_nothing}
+use Rattle.lgm_script.proofs.WrittenTextLaws.{taken_all, taken_some, some_flushed, some_flushed_part}
 use Rattle.lgm_answers.specs.declared.run_fault.TheConstants.{MAX_LINES}
 use Rattle.lgm_answers.specs.declared.run_fault.RunFault.{RunFault}
 use Rattle.lgm_answers.specs.declared.run_fault.RunFault.TheVariants as faults

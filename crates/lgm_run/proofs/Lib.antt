@@ -10,4 +10,3 @@ mod Stopping
 pub mod Ending
 mod MapLaws
 mod ChannelCountLaws
-mod Routed

@@ -19,8 +19,8 @@ use Rattle.lgm_script.specs.Output.{OutputState, Tells, TellsSome}
 use Rattle.lgm_script.proofs.Ahead.{left_is}
 use Rattle.lgm_script.proofs.FirstLines.{each-push, first_line_alone, stands_at}
 use Rattle.lgm_script.proofs.FirstWords.{request_is_lawful}
-use Rattle.lgm_script.proofs.Splitting.{next_of}
-use Rattle.lgm_script.proofs.Telling.{tells_nothing, tells_both, some_behind}
+use Rattle.lgm_script.proofs.FirstLineFeedLaws.{next_of}
+use Rattle.lgm_script.proofs.WrittenTextLaws.{tells_nothing, tells_both, some_behind}
 use Rattle.lgm_answers.specs.declared.run_fault.TheConstants.{MAX_LINES}
 use Rattle.lgm_answers.specs.Outcomes.{history_of}
 use Rattle.lgm_answers.specs.Script.{commands_of, items_of, State, state_of, text_for, text_at, text_before}

@@ -10,7 +10,7 @@ use Rattle.lgm_script.specs.declared.read.LineFault.TheVariants as lines
 use Rattle.lgm_script.specs.Device.{Input, IsAtEnd}
 use Rattle.lgm_script.specs.Lines.{ahead, IsFirstLine, IsLongerThan}
 use Rattle.lgm_script.specs.Output.{OutputState, Tells, TellsPart, TellsSome}
-use Rattle.lgm_script.proofs.Telling.{some_of_all, some_of_part, tells_nothing}
+use Rattle.lgm_script.proofs.WrittenTextLaws.{some_of_all, some_of_part, tells_nothing}
 use Rattle.lgm_answers.specs.declared.run_fault.TheConstants.{MAX_LINES}
 use Rattle.lgm_answers.specs.declared.run_fault.RunFault.{RunFault}
 use Rattle.lgm_answers.specs.declared.run_fault.RunFault.TheVariants as faults

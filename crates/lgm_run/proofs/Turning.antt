@@ -4,7 +4,7 @@ use Rattle.std.specs.List.{AllZip}
 use Rattle.std.proofs.lemmas.List.{drop_more}
 use Rattle.lgm_script.specs.declared.output.SendFault.{SendFault}
 use Rattle.lgm_script.specs.Output.{OutputState, Tells, TellsPart}
-use Rattle.lgm_script.proofs.Telling.{Onward, onward_more, onward_stops, onward_ends}
+use Rattle.lgm_script.proofs.WrittenTextLaws.{Onward, onward_more, onward_stops, onward_ends}
 use Rattle.lgm_run.specs.inner.Turns.{behind_all, texts_of}
 
 module _ {S Q A : Type 0} (after : S → Q → S) (text : ℕ → S → Q → List ℕ) (R : Q → A → Type 0) (last : S)

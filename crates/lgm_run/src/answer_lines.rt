@@ -1,13 +1,11 @@
 //! Answering lines in groups.
 
-ghost use Rattle.std.specs.Prelude.{◌≡◌, ◌≤◌, ◌+◌, ◌<◌, ◌^◌, [], ◌∷◌, length, map, IfOk, IfNone, IfSome, None, OnOk};
+ghost use Rattle.std.specs.Prelude.{◌≡◌, ◌≤◌, ◌+◌, ◌<◌, ◌^◌, length, map, OnOk};
 ghost use Rattle.std.specs.List.{AllByRecursion};
 ghost use Rattle.lgm_script.specs.Groups.{IsOfKind, AreAlike};
 ghost use Rattle.lgm_script.specs.Output.{told_by, Writes};
 ghost use Rattle.lgm_script.specs.Command.{command_of};
-ghost use Rattle.lgm_script.specs.declared.command.Command.TheVariants.{Route as AsksRoute};
-ghost use Rattle.lgm_answers.specs.Answer.{outcome_word};
-ghost use Rattle.lgm_run.specs.inner.CheckedItem.{state_by, offered_word, offered_text};
+ghost use Rattle.lgm_run.specs.inner.CheckedItem.{state_by, offered_text};
 ghost use Rattle.lgm_run.specs.inner.Questions.{asked_in};
 ghost use Rattle.lgm_run.specs.inner.Steps.{state_alone, text_alone, state_from, text_from};
 
@@ -15,40 +13,15 @@ use crate::checked_item::{CheckedItem, check_lines};
 use crate::context::Context;
 use crate::engine::Engine;
 use crate::lookahead::{hint_of, lookahead};
-use lgm_answers::{Answer, MAX_LINES, outcome_word};
+use lgm_answers::{MAX_LINES, outcome_word};
 use lgm_check::Refusal;
 use lgm_par::Gate;
-use lgm_script::{
-    Command, Group, Kind, Line, Output, RouteParameters, SendFault, Sink, may_ask_routes, parse,
-};
+use lgm_script::{Command, Group, Kind, Line, Output, SendFault, Sink, parse};
 use lgm_store::Hint;
-use std::alloc::{AllocError, Global};
+use std::alloc::Global;
 use std::thread::Threads;
 
-/// Offers the checked item of a line in its turn, if there is one, and returns the word of its outcome, unless it was
-/// accepted.
-fn offer(
-    alloc: Global,
-    item: Option<CheckedItem>,
-    hint: Hint,
-    engine: &mut Engine,
-) -> Result<Option<&'static str>, AllocError>
-    requires few { engine.old.accepted + 1 < 2 ^ 64 }
-    ensures state { OnOk result (engine.new ≡ state_by engine.old item) }
-    ensures accepted { IfOk result (λ word. IfNone word (offered_word engine.old.rows item ≡ outcome_word None)) }
-    ensures word { IfOk result (λ word. IfSome word (λ own. own.now ≡ offered_word engine.old.rows item)) }
-{
-    let Some(item) = item else {
-        return Ok(Some("bad"));
-    };
-    match engine.offer(alloc, item, hint) {
-        Ok(()) => Ok(None),
-        Err(Refusal::NoMemory) => Err(AllocError),
-        Err(refusal) => Ok(Some(outcome_word(Some(refusal)))),
-    }
-}
-
-/// Answers the line of an item, which was checked: offers the item, and writes its outcome.
+/// Answers the line of an item, which was checked: offers the item, if there is one, and writes its outcome.
 #[inline(always)]
 fn answer_item<W: Sink>(
     alloc: Global,
@@ -63,10 +36,14 @@ fn answer_item<W: Sink>(
     ensures written { Writes (told_by W.seen output.old) (told_by W.seen output.new)
         (offered_text number engine.old.rows item) result }
 {
-    match offer(alloc, item, hint, engine)? {
+    let Some(item) = item else {
+        return output.send(number, &Line::Word("bad"));
+    };
+    match engine.offer(alloc, item, hint) {
         // Nearly all are: this word is compiled into the line.
-        None => output.send(number, &Line::Word(outcome_word(None))),
-        Some(word) => output.send(number, &Line::Word(word)),
+        Ok(()) => output.send(number, &Line::Word(outcome_word(None))),
+        Err(Refusal::NoMemory) => Err(SendFault::NoMemory),
+        Err(refusal) => output.send(number, &Line::Word(outcome_word(Some(refusal)))),
     }
 }
 
@@ -97,41 +74,6 @@ fn answer_items<Rt: Threads + Sync, G: Gate, W: Sink>(
     Ok(())
 }
 
-/// The payment of a group of one line, if that requests a route.
-fn lone_payment(alloc: Global, lines: &[&[u8]]) -> Result<Option<RouteParameters>, AllocError>
-    ensures { IfOk result (λ payment. IfSome payment (λ own. asked_in lines.now ≡ AsksRoute own ∷ [])) }
-{
-    if lines.len() != 1 || !may_ask_routes(lines) {
-        return Ok(None);
-    }
-    match parse(alloc, lines[0])? {
-        Command::Route(payment) => Ok(Some(payment)),
-        _ => Ok(None),
-    }
-}
-
-/// Answers lines that request something of the committed map, the first of which has this number.
-fn answer_questions<Rt: Threads + Sync, G: Gate, W: Sink>(
-    context: &Context<'_, Rt, G>,
-    first: u64,
-    lines: &[&[u8]],
-    engine: &mut Engine,
-    output: &mut Output<'_, W>,
-) -> Result<(), SendFault>
-    requires questions { AllByRecursion (IsOfKind Kind.Question) (asked_in lines.now) }
-    requires number { first + length lines.now < 2 ^ 64 }
-    requires few { engine.old.accepted ≤ MAX_LINES }
-    ensures state { OnOk result (engine.new ≡ state_from context.now.chain engine.old (asked_in lines.now)) }
-    ensures written { Writes (told_by W.seen output.old) (told_by W.seen output.new)
-        (text_from context.now.chain first engine.old (asked_in lines.now)) result }
-{
-    if let Some(payment) = lone_payment(context.pool.alloc, lines)? {
-        let answer = engine.answer_route(&context.pool, &payment)?;
-        return answer.send(context.pool.alloc, first, output);
-    }
-    engine.answer_questions(context, first, lines, output)
-}
-
 /// Answers a line that is alone in its group: a commit, an empty line, a comment, or a malformed line.
 fn answer_alone<W: Sink>(
     alloc: Global,
@@ -148,7 +90,7 @@ fn answer_alone<W: Sink>(
     match parse(alloc, line)? {
         Command::Quiet => Ok(()),
         Command::Commit => engine.commit(alloc, number, output),
-        _ => Answer::Bad.send(alloc, number, output),
+        _ => output.send(number, &Line::Word("bad")),
     }
 }
 
@@ -172,7 +114,7 @@ pub fn answer<Rt: Threads + Sync, G: Gate, W: Sink>(
     let lines = group.lines.as_slice();
     match group.kind {
         Kind::Item => answer_items(context, first, lines, engine, output),
-        Kind::Question => answer_questions(context, first, lines, engine, output),
+        Kind::Question => engine.answer_questions(context, first, lines, output),
         Kind::Other => answer_alone(context.pool.alloc, first, lines[0], engine, output),
     }
 }

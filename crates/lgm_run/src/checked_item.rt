@@ -29,23 +29,6 @@ pub enum CheckedItem {
     Refused(Refusal),
 }
 
-/// Checks a message.
-fn check(
-    alloc: Global,
-    chain: &ChainHash,
-    bytes: &[u8],
-    evidence: &Evidence,
-) -> Result<CheckedItem, AllocError>
-    ensures { IfOk result
-        (λ offered. offered ≡ offered_by (checked_of chain.now bytes.now evidence.now)) }
-{
-    match CheckedMessage::precheck(alloc, chain, bytes, evidence) {
-        Ok(message) => Ok(CheckedItem::Message(message)),
-        Err(Refusal::NoMemory) => Err(AllocError),
-        Err(refusal) => Ok(CheckedItem::Refused(refusal)),
-    }
-}
-
 /// Decodes the digits of a message into half as many bytes, and checks it, if they are digits.
 #[inline(always)]
 fn check_digits(
@@ -60,10 +43,13 @@ fn check_digits(
         (λ offered. offered ≡ option_map (λ bytes. offered_by (checked_of chain.now bytes evidence.now))
         (bytes_of digits.now)) }
 {
-    if decode_digits(digits, room) {
-        Ok(Some(check(alloc, chain, room, evidence)?))
-    } else {
-        Ok(None)
+    if !decode_digits(digits, room) {
+        return Ok(None);
+    }
+    match CheckedMessage::precheck(alloc, chain, room, evidence) {
+        Ok(message) => Ok(Some(CheckedItem::Message(message))),
+        Err(Refusal::NoMemory) => Err(AllocError),
+        Err(refusal) => Ok(Some(CheckedItem::Refused(refusal))),
     }
 }
 

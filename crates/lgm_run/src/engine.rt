@@ -1,22 +1,21 @@
 //! The state between two lines.
 
-ghost use Rattle.std.specs.Prelude.{◌≡◌, ◌+◌, ◌≤◌, ◌<◌, ◌^◌, [], ℕ, length, IfOk, OnOk, OnErr};
+ghost use Rattle.std.specs.Prelude.{◌≡◌, ◌+◌, ◌≤◌, ◌<◌, ◌^◌, length, IfOk, OnOk, OnErr};
 ghost use Rattle.lgm_wire.specs.reading.Reading.{Gives};
 ghost use Rattle.lgm_script.specs.Output.{told_by, Writes};
-ghost use Rattle.lgm_answers.specs.Answer.{commit_text, route_text, answer_text};
+ghost use Rattle.lgm_answers.specs.Answer.{commit_text};
 ghost use Rattle.lgm_run.specs.inner.CheckedItem.{outcome_on, settled};
 ghost use Rattle.lgm_run.specs.inner.Questions.{asked_in, filters_behind, questions_text};
-ghost use Rattle.lgm_answers.specs.Routing.{route_answer};
 ghost use Rattle.lgm_run.specs.inner.Steps.{opening, state_behind, state_committed};
 
 use crate::checked_item::CheckedItem;
 use crate::context::Context;
 use crate::maps::Maps;
-use lgm_answers::{Answer, Filters, answer_found, asked_route};
+use lgm_answers::{Filters, send_commit};
 use lgm_check::Refusal;
 use lgm_graph::{Known, MAX_CHANNELS};
-use lgm_par::{Gate, Pool};
-use lgm_script::{Output, RouteParameters, SendFault, Sink};
+use lgm_par::Gate;
+use lgm_script::{Line, Output, SendFault, Sink};
 use lgm_store::{Hint, Map, Seed};
 use std::alloc::{AllocError, Global};
 use std::marker::Model;
@@ -85,21 +84,6 @@ impl Engine {
         Ok(())
     }
 
-    /// The answer to a payment on the committed map, found by several workers.
-    pub fn answer_route<Rt: Threads + Sync, G: Gate>(
-        &mut self,
-        pool: &Pool<'_, Rt, G>,
-        payment: &RouteParameters,
-    ) -> Result<Answer<'static>, AllocError>
-        requires few { self.old.accepted ≤ MAX_CHANNELS }
-        ensures same { self.new ≡ self.old }
-        ensures answer { IfOk result (λ answer. (n : ℕ) → answer_text n answer
-            ≡ route_text n payment.now.secret (route_answer self.old.known self.old.committed payment.now)) }
-    {
-        let found = self.maps.find_route(pool, &asked_route(payment));
-        answer_found(pool.alloc, &payment.secret, found)
-    }
-
     /// Answers lines that request something of the committed map, the first with this number, and sets their filters.
     pub fn answer_questions<Rt: Threads + Sync, G: Gate, W: Sink>(
         &mut self,
@@ -133,48 +117,32 @@ impl Engine {
             (commit_text number self.old.accepted self.old.committed self.old.rows
             self.old.filters) result }
     {
-        tell_commit(
-            alloc,
-            number,
-            self.accepted,
-            &self.maps,
-            &self.filters,
-            output,
-        )?;
+        self.send_commit(alloc, number, output)?;
         self.maps.commit();
         Ok(())
     }
-}
 
-/// The answer to a commit. Without filters there are no news, and none are looked for.
-fn committed<'a>(
-    alloc: Global,
-    accepted: u64,
-    maps: &'a Maps,
-    filters: &'a Filters,
-) -> Result<Answer<'a>, AllocError>
-    ensures text { IfOk result (λ answer. (n : ℕ)
-        → answer_text n answer ≡ commit_text n accepted maps.now.committed maps.now.rows filters.now) }
-    ensures none { filters.now ≡ [] → result ≡ Ok (Answer.Committed accepted) }
-{
-    if filters.as_map().is_empty() {
-        return Ok(Answer::Committed(accepted));
+    /// Writes the answer to a commit. Without filters there are no news, and none are looked for.
+    fn send_commit<W: Sink>(
+        &self,
+        alloc: Global,
+        number: u64,
+        output: &mut Output<'_, W>,
+    ) -> Result<(), SendFault>
+        ensures { Writes (told_by W.seen output.old) (told_by W.seen output.new)
+            (commit_text number self.now.accepted self.now.committed self.now.rows self.now.filters) result }
+    {
+        if self.filters.as_map().is_empty() {
+            return output.send(number, &Line::Commit(self.accepted));
+        }
+        let map_diff = self.maps.map_diff(alloc)?;
+        send_commit(
+            alloc,
+            number,
+            self.accepted,
+            &self.filters,
+            &map_diff,
+            output,
+        )
     }
-    Ok(Answer::News(accepted, filters, maps.map_diff(alloc)?))
-}
-
-/// Writes the answer to a commit.
-fn tell_commit<W: Sink>(
-    alloc: Global,
-    number: u64,
-    accepted: u64,
-    maps: &Maps,
-    filters: &Filters,
-    output: &mut Output<'_, W>,
-) -> Result<(), SendFault>
-    ensures { Writes (told_by W.seen output.old) (told_by W.seen output.new)
-        (commit_text number accepted maps.now.committed maps.now.rows filters.now) result }
-{
-    let answer = committed(alloc, accepted, maps, filters)?;
-    answer.send(alloc, number, output)
 }

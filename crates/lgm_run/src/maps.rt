@@ -1,11 +1,9 @@
 //! The network of all accepted items, and that of the committed ones.
 
-ghost use Rattle.std.specs.Prelude.{◌≡◌, ◌⊎◌, ◌+◌, ◌≤◌, ◌<◌, ◌^◌, [], length, Err, IsSome, IfOk, OnOk, OnErr};
+ghost use Rattle.std.specs.Prelude.{◌≡◌, ◌⊎◌, ◌+◌, ◌≤◌, ◌<◌, ◌^◌, [], length, IsSome, IfOk, OnOk, OnErr};
 ghost use Rattle.std.specs.Option.{option_map};
 ghost use Rattle.lgm_wire.specs.reading.Reading.{Gives};
 ghost use Rattle.lgm_store.specs.Rows.{Rows, empty};
-ghost use Rattle.lgm_graph.specs.Edges.{edges_of};
-ghost use Rattle.lgm_route.specs.Choice.{answer_of};
 ghost use Rattle.lgm_script.specs.Output.{told_by, Writes};
 ghost use Rattle.lgm_run.specs.inner.Maps.{grown, rows_of, due_of, known_of, AreAlike};
 ghost use Rattle.lgm_run.specs.inner.CheckedItem.{outcome_on, settled};
@@ -19,9 +17,8 @@ use crate::questions::answer_questions;
 use lgm_answers::Filters;
 use lgm_check::Refusal;
 use lgm_graph::{Known, MAX_CHANNELS, Network, Replica, push_pending, reserve_pending};
-use lgm_par::{Gate, Pool};
+use lgm_par::Gate;
 use lgm_query::{MapDiff, TouchedKeys};
-use lgm_route::{Request, Route, RouteFault, answer_chunked};
 use lgm_script::{Output, SendFault, Sink, may_ask_routes};
 use lgm_store::{Hint, Map, Op, Seed};
 use std::alloc::{AllocError, Global};
@@ -127,24 +124,6 @@ impl Maps {
             due: pending,
         });
         self.pending = Some(due);
-    }
-
-    /// The best route of a payment over the edges of the committed map, found by several workers.
-    pub fn find_route<Rt: Threads + Sync, G: Gate>(
-        &mut self,
-        pool: &Pool<'_, Rt, G>,
-        request: &Request,
-    ) -> Result<Route, RouteFault>
-        requires few { length self.old.committed.channels ≤ MAX_CHANNELS }
-        ensures same { self.new ≡ self.old }
-        ensures found { (result ≡ Err RouteFault.NoMemory) ⊎
-            (result ≡ answer_of (edges_of self.old.known self.old.committed) request.now) }
-    {
-        make_view(pool.alloc, &mut self.growing, &mut self.committed)?;
-        let Some(view) = self.committed.view() else {
-            unreachable!();
-        };
-        answer_chunked(pool, self.committed.map(), view, request)
     }
 
     /// Answers lines that request something of the committed map, the first of which has this number: the answers are
@@ -265,33 +244,8 @@ fn admit(alloc: Global, network: &mut Network, item: CheckedItem, hint: Hint) ->
     }
 }
 
-/// Offers a checked item to a network that has caught up. The operation of an accepted one is pending from then on, while few
-/// are. A refusal or out of memory leaves all unchanged.
-pub fn offer(
-    alloc: Global,
-    growing: &mut Replica,
-    pending: &mut Option<VecDeque<Op>>,
-    item: CheckedItem,
-    hint: Hint,
-) -> Result<(), Refusal>
-    ensures outcome { Gives Refusal.NoMemory (λ done. done) result
-        (settled (outcome_on growing.old.network.rows item)) }
-    ensures kept { OnOk result (Keeps (outcome_on growing.old.network.rows item)
-        growing.old.network.rows growing.new.network.rows
-        (option_map (λ ops. ops.items) pending.old) (option_map (λ ops. ops.items) pending.new)) }
-    ensures due { growing.new.due ≡ growing.old.due }
-    ensures known { growing.new.network.known ≡ growing.old.network.known }
-    ensures same { OnErr result (growing.new.network.rows ≡ growing.old.network.rows) }
-    ensures none { OnErr result
-        (option_map (λ ops. ops.items) pending.new ≡ option_map (λ ops. ops.items) pending.old) }
-{
-    reserve_pending(pending)?;
-    let op = admit(alloc, &mut growing.network, item, hint)?;
-    push_pending(pending, op, growing.network.map().count());
-    Ok(())
-}
-
-/// Offers a checked item to the network that grows, to which nothing is due.
+/// Offers a checked item to the network that grows, to which nothing is due. The operation of an accepted one is pending
+/// from then on, while few are. A refusal or out of memory leaves all unchanged.
 #[inline(always)]
 fn offer_to(
     alloc: Global,
@@ -316,5 +270,8 @@ fn offer_to(
     let Some(growing) = growing else {
         unreachable!();
     };
-    offer(alloc, growing, pending, item, hint)
+    reserve_pending(pending)?;
+    let op = admit(alloc, &mut growing.network, item, hint)?;
+    push_pending(pending, op, growing.network.map().count());
+    Ok(())
 }

@@ -1,50 +1,47 @@
 //! Questions about the committed map, answered in parallel.
 
-ghost use Rattle.std.specs.Prelude.{◌≡◌, ◌+◌, ◌<◌, ◌^◌, ℕ, List};
-ghost use Rattle.std.specs.Prelude.{IfOk, OnOk, All, length};
+ghost use Rattle.std.specs.Prelude.{◌≡◌, ◌+◌, ◌<◌, ◌^◌, IfOk, OnOk, All, length};
 ghost use Rattle.std.specs.List.{AllZip};
+ghost use Rattle.std.specs.Thread.{IsSync};
 ghost use Rattle.lgm_script.specs.Output.{told_by, Writes};
 ghost use Rattle.lgm_script.specs.Command.{command_of};
 ghost use Rattle.lgm_script.specs.declared.command.Command.TheVariants.{Route as AsksRoute};
-ghost use Rattle.lgm_answers.specs.Answer.{answer_text, route_text};
 ghost use Rattle.lgm_answers.specs.Routing.{route_answer};
-ghost use Rattle.lgm_answers.specs.declared.filters.PeerFilter.{PeerFilter};
-ghost use Rattle.lgm_answers.specs.Setting.{filters_by};
 ghost use Rattle.lgm_run.specs.inner.Questions.{asked_in, filters_behind};
 ghost use Rattle.lgm_run.specs.inner.Questions.{questions_text, IsAnswerTo, IsReady};
 
 use crate::context::Context;
-use lgm_answers::{Answer, Filters, answer_filter, answer_found, answer_query, asked_route};
+use lgm_answers::{Answer, Filters, answer_filter, answer_query, asked_route};
 use lgm_gossip::ChainHash;
 use lgm_graph::Network;
-use lgm_par::Gate;
-use lgm_route::answer;
+use lgm_par::{Gate, MAX_WORKERS, Pool};
+use lgm_route::{RouteFault, answer_chunked};
 use lgm_script::{Command, Output, RouteParameters, SendFault, Sink, parse};
-use std::alloc::{AllocError, Global};
+use std::alloc::AllocError;
 use std::thread::Threads;
 
-/// The answer to a payment.
-fn answer_route(
-    alloc: Global,
+/// The answer to a payment, whose route is searched for by a pool of workers.
+fn answer_route<Rt: Threads + Sync, G: Gate>(
+    search: &Pool<'_, Rt, G>,
     committed: &Network,
     payment: &RouteParameters,
 ) -> Result<Answer<'static>, AllocError>
     requires { IsReady committed.now.graph (AsksRoute payment.now) }
-    ensures text { IfOk result (λ answer. (n : ℕ) → answer_text n answer
-        ≡ route_text n payment.now.secret (route_answer committed.now.known committed.now.rows payment.now)) }
-    ensures filters { IfOk result
-        (λ answer. (filters : List PeerFilter) → filters_by filters answer ≡ filters) }
+    ensures { IfOk result (λ answer. answer ≡ Answer.Route payment.now.secret
+        (route_answer committed.now.known committed.now.rows payment.now)) }
 {
     let Some(view) = committed.view() else {
         unreachable!();
     };
-    let found = answer(alloc, committed.map(), view, &asked_route(payment));
-    answer_found(alloc, &payment.secret, found)
+    match answer_chunked(search, committed.map(), view, &asked_route(payment)) {
+        Err(RouteFault::NoMemory) => Err(AllocError),
+        found => Ok(Answer::Route(payment.secret, found)),
+    }
 }
 
-/// Parses a line and computes the answer to its request about the committed map.
-fn decide<'a>(
-    alloc: Global,
+/// Parses a line, and answers its request about the committed map.
+fn answer_line<'a, Rt: Threads + Sync, G: Gate>(
+    search: &Pool<'_, Rt, G>,
     chain: &ChainHash,
     committed: &'a Network,
     line: &[u8],
@@ -52,18 +49,18 @@ fn decide<'a>(
     requires { IsReady committed.now.graph (command_of line.now) }
     ensures { IfOk result (IsAnswerTo chain.now committed.now.known committed.now.rows (command_of line.now)) }
 {
+    let alloc = search.alloc;
     match parse(alloc, line)? {
         Command::Query(bytes) => answer_query(alloc, chain, committed.map(), bytes.as_slice()),
-        Command::Filter(peer, bytes) => {
-            answer_filter(alloc, chain, committed.map(), peer, bytes.as_slice())
-        }
-        Command::Route(payment) => answer_route(alloc, committed, &payment),
+        Command::Filter(peer, bytes) => answer_filter(alloc, chain, peer, bytes.as_slice()),
+        Command::Route(payment) => answer_route(search, committed, &payment),
         _ => Ok(Answer::Bad),
     }
 }
 
-/// Computes the answers to lines in chunks, in parallel. Each may run out of memory on its own.
-fn decide_all<'a, Rt: Threads + Sync, G: Gate>(
+/// Answers lines in chunks, in parallel, or a single line, for whose route all workers search. Each may run out of memory
+/// on its own.
+fn answer_all<'a, Rt: Threads + Sync, G: Gate>(
     context: &Context<'_, Rt, G>,
     committed: &'a Network,
     lines: &[&[u8]],
@@ -73,29 +70,15 @@ fn decide_all<'a, Rt: Threads + Sync, G: Gate>(
         (IsAnswerTo context.now.chain committed.now.known committed.now.rows request))
         (asked_in lines.now) all.items) }
 {
-    let alloc = context.pool.alloc;
     let chain = &context.chain;
-    context
+    let search = context
         .pool
-        .map(lines, &|line| decide(alloc, chain, committed, line))
-}
-
-/// Writes an answer in its turn, and sets its filter, if it has one.
-fn write_answer<W: Sink>(
-    alloc: Global,
-    number: u64,
-    answer: &Answer<'_>,
-    filters: &mut Filters,
-    output: &mut Output<'_, W>,
-) -> Result<(), SendFault>
-    ensures filters { OnOk result (filters.new ≡ filters_by filters.old answer.now) }
-    ensures written { Writes (told_by W.seen output.old) (told_by W.seen output.new)
-        (answer_text number answer.now) result }
-{
-    if let Answer::Backlog(own, _) = answer {
-        filters.set(*own)?;
-    }
-    answer.send(alloc, number, output)
+        .at_most(if lines.len() == 1 { MAX_WORKERS } else { 1 });
+    let find = |line: &&[u8]| -> Result<Answer<'_>, AllocError>
+        requires sync { IsSync Rt.row }
+        requires ready { IsReady committed.now.graph (command_of line.now.now) }
+    { answer_line(&search, chain, committed, line) };
+    context.pool.map(lines, &find)
 }
 
 /// Answers lines that request something of the committed map, the first of which has this number.
@@ -115,13 +98,14 @@ pub fn answer_questions<Rt: Threads + Sync, G: Gate, W: Sink>(
         (questions_text context.now.chain committed.now.known committed.now.rows first filters.old
         (asked_in lines.now)) result }
 {
-    let all = decide_all(context, committed, lines)?;
+    let (alloc, chain) = (context.pool.alloc, &context.chain);
+    let all = answer_all(context, committed, lines)?;
     let mut number = first;
     for answer in all.as_slice() {
         let Ok(answer) = answer else {
             return Err(SendFault::NoMemory);
         };
-        write_answer(context.pool.alloc, number, answer, filters, output)?;
+        answer.send(alloc, chain, committed.map(), number, filters, output)?;
         number += 1;
     }
     Ok(())

@@ -1,10 +1,10 @@
-pub mod Appending
+pub mod AppendedBytesLaws
 pub mod WriteLaws
 pub mod Ahead
-pub mod Splitting
+pub mod FirstLineFeedLaws
 pub mod FirstLines
 pub mod FirstWords
 pub mod Decimals
 pub mod FieldsLaws
-pub mod Telling
+pub mod WrittenTextLaws
 pub mod Items

@@ -5,7 +5,7 @@ use Rattle.std.proofs.lemmas.List.{drop-drop, length-drop, length-take, take_res
 use Rattle.std.specs.Option.{option_map}
 use Rattle.std.proofs.lemmas.Bool.{ne_eqb}
 use Rattle.lgm_script.specs.declared.device.Failed.{Failed}
-use Rattle.lgm_script.proofs.Appending.{appends_nothing, appends_both}
+use Rattle.lgm_script.proofs.AppendedBytesLaws.{appends_nothing, appends_both}
 use Rattle.lgm_script.specs.Device.{write_failures, Appends, AppendsSome}
 
 abbrev pub took : ℕ → Result ℕ Failed

@@ -20,8 +20,8 @@ use Rattle.lgm_store.specs.History.{updates_without}
 use Rattle.lgm_store.proofs.Ordered.{lookup-below}
 use Rattle.lgm_store.specs.inner.SameKeys.{same_id}
 use Rattle.lgm_store.proofs.Lists.{id_test}
-use Rattle.lgm_store.proofs.Listing.{is_at-id}
-use Rattle.lgm_store.proofs.Walking.{first_value}
+use Rattle.lgm_store.proofs.NodeIdListLaws.{is_at-id}
+use Rattle.lgm_store.proofs.IterationLaws.{first_value}
 
 -- ---- channels
 

@@ -23,7 +23,7 @@ use Rattle.lgm_store.proofs.ListLaws.{filter-filter, filter-same}
 use Rattle.lgm_store.proofs.Lists.{lookup-channel, lookup-update}
 use Rattle.lgm_store.proofs.ChannelMapLaws.{lookup-channels, lookup-updates}
 use Rattle.lgm_store.proofs.Bans.{id_again}
-use Rattle.lgm_store.proofs.Listing.{is_at-id}
+use Rattle.lgm_store.proofs.NodeIdListLaws.{is_at-id}
 
 -- ---- each update's channel is there
 

@@ -8,7 +8,7 @@ use Rattle.lgm_store.specs.inner.ChannelEntries.{channel_entries, update_entries
 use Rattle.lgm_store.specs.Rows.{Rows}
 use Rattle.lgm_store.specs.Laws.{IsLawful}
 use Rattle.lgm_store.specs.inner.Sound.{IsKept}
-use Rattle.lgm_store.proofs.Ascending.{IsAscending-sound}
+use Rattle.lgm_store.proofs.AscendingRowLaws.{IsAscending-sound}
 use Rattle.lgm_store.proofs.ChannelWithUpdates.{updates_are_stored}
 
 -- the rows of such maps

@@ -21,7 +21,7 @@ use Rattle.lgm_store.specs.History.{allowed_channels, banned_channels}
 use Rattle.lgm_store.specs.Laws.{IsLawful, AreStored, AreEnded, AreAllowed}
 use Rattle.lgm_store.specs.Keys.{id_of}
 use Rattle.lgm_store.proofs.ListLaws.{All-filtered, All-put, All-to}
-use Rattle.lgm_store.proofs.Ascending.{fold-ascends}
+use Rattle.lgm_store.proofs.AscendingRowLaws.{fold-ascends}
 use Rattle.lgm_store.proofs.Removals.{AreEnded-ended_nodes}
 
 -- a test that finds a row still finds one after a row is inserted

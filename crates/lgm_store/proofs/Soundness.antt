@@ -22,7 +22,7 @@ use Rattle.lgm_store.specs.Reading.{ids_at}
 use Rattle.lgm_store.specs.inner.ChannelsByNode.{entry_of, kept, with_id, changed, Lists, Lacks}
 use Rattle.lgm_store.specs.inner.Sound.{IsSound, AreEnded}
 use Rattle.lgm_store.proofs.ListLaws.{All-append, All-filter}
-use Rattle.lgm_store.proofs.Listing.{kept-with}
+use Rattle.lgm_store.proofs.NodeIdListLaws.{kept-with}
 use Rattle.lgm_store.proofs.Lists.{IsKeyed-channel, IsKeyed-update, IsKeyed-node, values-node}
 use Rattle.lgm_store.proofs.ChannelMapLaws.{keys-channels, lookup-channels, insert-channels, set-channels, channel-with}
 use Rattle.lgm_store.proofs.ChannelMapLaws.{ascend-updates, set-updates, insert-updates}

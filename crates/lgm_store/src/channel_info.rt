@@ -59,15 +59,18 @@ impl ChannelInfo {
     pub(crate) fn new(row: Shared<StoredChannel>) -> ChannelInfo
         ensures { result ≡ alone row }
     {
+        let lent = row.get().row();
+        let scid = lent.message.short_channel_id;
+        let (node_1, node_2) = (lent.message.node_id_1, lent.message.node_id_2);
         ChannelInfo {
-            scid: row.get().scid(),
+            scid,
             first_time: 0,
             second_time: 0,
+            row,
             first: None,
             second: None,
-            node_1: row.get().node(false),
-            node_2: row.get().node(true),
-            row,
+            node_1,
+            node_2,
         }
     }
 

@@ -20,12 +20,12 @@ use std::marker::Model;
 /// thread, and [`Map::offer_checked`](crate::Map::offer_checked) only adds an owner.
 #[derive(Drop)]
 pub struct CheckedMessage {
-    pub(crate) kind: Kind,
+    pub(crate) stored: StoredMessage,
 }
 
 /// Which message it is, with its row.
 #[derive(Drop)]
-pub(crate) enum Kind {
+pub(crate) enum StoredMessage {
     /// A `channel_announcement`.
     Channel(Shared<StoredChannel>),
     /// A `channel_update`, and the point that signed it.
@@ -40,7 +40,7 @@ impl Model for CheckedMessage {
 
     ghost Value = { Checked };
 
-    ghost view = { λ c. message_of c.kind };
+    ghost view = { λ c. message_of c.stored };
 }
 
 impl CheckedMessage {
@@ -60,28 +60,28 @@ impl CheckedMessage {
     {
         let checked = precheck_kind(alloc, chain, bytes, evidence)?;
         Ok(CheckedMessage {
-            kind: keep(alloc, bytes, checked)?,
+            stored: keep(alloc, bytes, checked)?,
         })
     }
 }
 
 /// The stored row: a copy of the bytes, with the capacity of a channel.
-fn keep(alloc: Global, bytes: &[u8], checked: CheckedKind<'_>) -> Result<Kind, AllocError>
+fn keep(alloc: Global, bytes: &[u8], checked: CheckedKind<'_>) -> Result<StoredMessage, AllocError>
     requires { Fits checked bytes.now }
-    ensures { IfOk result (λ kind. message_of kind ≡ row_of checked.entry bytes.now) }
+    ensures { IfOk result (λ stored. message_of stored ≡ row_of checked.entry bytes.now) }
 {
     match checked {
         CheckedKind::Channel(sat) => {
             let row = StoredChannel::of_bytes(alloc, bytes, sat)?;
-            Ok(Kind::Channel(Shared::new(alloc, row)?))
+            Ok(StoredMessage::Channel(Shared::new(alloc, row)?))
         }
         CheckedKind::Update(signer) => {
             let row = StoredUpdate::of_bytes(alloc, bytes)?;
-            Ok(Kind::Update(Shared::new(alloc, row)?, *signer.point()))
+            Ok(StoredMessage::Update(Shared::new(alloc, row)?, *signer.point()))
         }
         CheckedKind::Node => {
             let row = StoredNode::of_bytes(alloc, bytes)?;
-            Ok(Kind::Node(Shared::new(alloc, row)?))
+            Ok(StoredMessage::Node(Shared::new(alloc, row)?))
         }
     }
 }

@@ -3,7 +3,7 @@
 pub(crate) mod lookup;
 pub(crate) mod lookup_cache;
 
-use crate::checked_message::{CheckedMessage, Kind};
+use crate::checked_message::{CheckedMessage, StoredMessage};
 use crate::map::Map;
 use lookup::{ChannelLookup, Hint, NodeLookup, UpdateLookup};
 use std::alloc::{AllocError, Global};
@@ -68,10 +68,16 @@ impl Lookahead {
 
     /// Adds a message, whose turn comes after those before it. The only error is out of memory.
     pub fn add(&mut self, message: &CheckedMessage) -> Result<(), AllocError> {
-        match &message.kind {
-            Kind::Channel(row) => self.channels.lookups.push(ChannelLookup::of(row.get()))?,
-            Kind::Update(row, _) => self.updates.lookups.push(UpdateLookup::of(row.get()))?,
-            Kind::Node(row) => self.nodes.lookups.push(NodeLookup::of(row.get()))?,
+        match &message.stored {
+            StoredMessage::Channel(row) => self
+                .channels
+                .lookups
+                .push(ChannelLookup::of(row.get()))?,
+            StoredMessage::Update(row, _) => self
+                .updates
+                .lookups
+                .push(UpdateLookup::of(row.get()))?,
+            StoredMessage::Node(row) => self.nodes.lookups.push(NodeLookup::of(row.get()))?,
         }
         Ok(())
     }
@@ -80,10 +86,10 @@ impl Lookahead {
     /// was with those before it.
     #[inline(always)]
     pub fn next(&mut self, map: &Map, message: &CheckedMessage) -> Hint {
-        match &message.kind {
-            Kind::Channel(_) => self.next_channel(map),
-            Kind::Update(_, _) => return self.next_update(map),
-            Kind::Node(_) => self.next_node(map),
+        match &message.stored {
+            StoredMessage::Channel(_) => self.next_channel(map),
+            StoredMessage::Update(_, _) => return self.next_update(map),
+            StoredMessage::Node(_) => self.next_node(map),
         }
         Hint::none()
     }

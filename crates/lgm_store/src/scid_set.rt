@@ -15,12 +15,12 @@ use std::marker::Model;
 /// when they are read, which only a ban requires. A set of one, as for most nodes, needs no allocation.
 #[derive(Drop)]
 pub(crate) struct ScidSet {
-    place: Place,
+    ids: OneOrMany,
 }
 
 /// Where the ids are stored.
 #[derive(Drop)]
-enum Place {
+enum OneOrMany {
     /// A single id.
     One(Scid),
     /// Any number of ids, in the order in which they were added. An id that was added twice is listed twice.
@@ -33,7 +33,7 @@ impl Model for ScidSet {
 
     ghost Value = { List ℕ };
 
-    ghost view = { λ s. ids_in s.place };
+    ghost view = { λ s. ids_in s.ids };
 }
 
 impl ScidSet {
@@ -42,16 +42,16 @@ impl ScidSet {
         ensures { result ≡ scid ∷ [] }
     {
         ScidSet {
-            place: Place::One(scid),
+            ids: OneOrMany::One(scid),
         }
     }
 
     pub(crate) fn is_empty(&self) -> bool
         ensures { result ≡ (length self.now == 0) }
     {
-        match &self.place {
-            Place::One(_) => false,
-            Place::Many(scids) => scids.as_slice().is_empty(),
+        match &self.ids {
+            OneOrMany::One(_) => false,
+            OneOrMany::Many(scids) => scids.as_slice().is_empty(),
         }
     }
 
@@ -60,12 +60,12 @@ impl ScidSet {
         ensures ok { OnOk result (self.new ≡ with_id self.old scid) }
         ensures err { OnErr result (self.new ≡ self.old) }
     {
-        match &mut self.place {
-            Place::One(own) => {
+        match &mut self.ids {
+            OneOrMany::One(own) => {
                 let both = both(alloc, *own, scid)?;
-                self.place = Place::Many(both);
+                self.ids = OneOrMany::Many(both);
             }
-            Place::Many(scids) => scids.push(scid)?,
+            OneOrMany::Many(scids) => scids.push(scid)?,
         }
         Ok(())
     }
@@ -73,26 +73,26 @@ impl ScidSet {
     pub(crate) fn remove(&mut self, alloc: Global, scid: Scid)
         ensures { self.new ≡ without_id self.old scid }
     {
-        match &mut self.place {
-            Place::One(own) => {
+        match &mut self.ids {
+            OneOrMany::One(own) => {
                 if scid.cmp(own).is_eq() {
-                    self.place = Place::Many(Vec::new(alloc));
+                    self.ids = OneOrMany::Many(Vec::new(alloc));
                 }
             }
-            Place::Many(scids) => discard(scids, scid),
+            OneOrMany::Many(scids) => discard(scids, scid),
         }
     }
 
     /// Whether its id is stored in its place. No contract depends on it.
     pub(crate) fn is_single(&self) -> bool {
-        matches!(self.place, Place::One(_))
+        matches!(self.ids, OneOrMany::One(_))
     }
 
     /// The id that was added last, as far as the set knows.
     pub(crate) fn last(&self) -> Option<Scid> {
-        match &self.place {
-            Place::One(own) => Some(*own),
-            Place::Many(scids) => scids.as_slice().last().copied(),
+        match &self.ids {
+            OneOrMany::One(own) => Some(*own),
+            OneOrMany::Many(scids) => scids.as_slice().last().copied(),
         }
     }
 
@@ -100,9 +100,9 @@ impl ScidSet {
     pub(crate) fn gather(&self, alloc: Global, scids: &mut Vec<Scid>) -> Result<(), AllocError>
         ensures { OnOk result (scids.new.items ≡ scids.old.items ++ self.now) }
     {
-        match &self.place {
-            Place::One(own) => scids.push(*own)?,
-            Place::Many(own) => gather(&sorted(alloc, own.as_slice())?, scids)?,
+        match &self.ids {
+            OneOrMany::One(own) => scids.push(*own)?,
+            OneOrMany::Many(own) => gather(&sorted(alloc, own.as_slice())?, scids)?,
         }
         Ok(())
     }
@@ -154,10 +154,10 @@ impl Clone for ScidSet {
     ghost is_clone = { λ set copy. copy ≡ set };
 
     fn clone(&self) -> Result<ScidSet, AllocError> {
-        let place = match &self.place {
-            Place::One(scid) => Place::One(*scid),
-            Place::Many(scids) => Place::Many(scids.clone()?),
+        let ids = match &self.ids {
+            OneOrMany::One(scid) => OneOrMany::One(*scid),
+            OneOrMany::Many(scids) => OneOrMany::Many(scids.clone()?),
         };
-        Ok(ScidSet { place })
+        Ok(ScidSet { ids })
     }
 }

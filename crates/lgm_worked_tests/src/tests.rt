@@ -2,5 +2,8 @@ mod examples;
 mod faults;
 mod filters;
 mod items;
+mod longest;
 mod payments;
+mod pieces;
 mod queries;
+mod views;

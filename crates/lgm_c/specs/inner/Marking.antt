@@ -11,7 +11,7 @@ pub record Marked : Type 0 where
   pub marked : Rows
   pub rows : Option Rows
 
--- the map is behind the mark by the operations due, and the mark is behind the current rows by those since
+-- the map lags the mark by the operations due, and the mark lags the current rows by those since
 abbrev pub marked_by : Rows → List Op → Option (List Op) → Marked
 marked_by map due since = record {
   marked = fold_from map due;

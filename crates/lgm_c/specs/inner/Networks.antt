@@ -16,8 +16,8 @@ abbrev pub network_rows : NetworkState → NetworkRows
 network_rows network = record { known = network.known; rows = network.rows }
 
 -- the rows after operations
-abbrev pub rows_behind : NetworkRows → List Op → NetworkRows
-rows_behind network ops = record { known = network.known; rows = fold_from network.rows ops }
+abbrev pub rows_after : NetworkRows → List Op → NetworkRows
+rows_after network ops = record { known = network.known; rows = fold_from network.rows ops }
 
 -- a network that has its view, which numbers no more points than one of these rows may
 pub record HasView (network : NetworkState) : Type 0 where

@@ -1,15 +1,16 @@
 -- How a view over an overlay is represented.
-use Rattle.std.specs.Prelude.{◌≡◌, ◌≢◌, ◌⊎◌, ℕ, zero, suc, ◌<◌, ◌==◌, Bool, true, false, ◌||◌, min, List, [], ◌∷◌, ◌++◌, map, filter}
+use Rattle.std.specs.Prelude.{◌≡◌, ◌≢◌, ◌⊎◌, ℕ, zero, suc, ◌<◌, ◌==◌, Bool, true, false, ◌||◌, min, List, [], ◌∷◌, ◌++◌, map}
 use Rattle.std.specs.Prelude.{fold, length, Option, Some, None, unwrap_or, Contains, slice_get, slice_index_or, ◌^◌, if◌then◌else◌}
 use Rattle.std.specs.List.{list_any, filter_map}
 use Rattle.lgm_wire.specs.declared.point.Point.{Point}
 use Rattle.lgm_store.specs.Rows.{is_point}
 use Rattle.lgm_graph.specs.declared.edge.Edge.{Edge}
 use Rattle.lgm_graph.specs.declared.overlay.Limit.{Limit}
+use Rattle.lgm_graph.specs.declared.overlay_view.lists.Edges.{Edges}
 use Rattle.lgm_graph.specs.declared.overlay_view.saying.Saying.{Saying}
 use Rattle.lgm_graph.specs.declared.overlay_view.saying.Saying.TheVariants.{Silent, Limited, Leaving, Entering}
 use Rattle.lgm_graph.specs.Edges.{PointEdge}
-use Rattle.lgm_graph.specs.Graph.{Graph, edges_leaving, numbered_in}
+use Rattle.lgm_graph.specs.Graph.{Graph, GraphNode, bare_node, node_at, edges_leaving, edges_with}
 use Rattle.lgm_graph.specs.Overlay.{OverlayParts, limited, firsts, most_of}
 
 -- ---- what an overlay says of a node
@@ -83,10 +84,6 @@ pub record ArePlaced (touched : Touched) : Type 0 where
   pub count : length touched.nodes ≡ used_places touched.places
   pub few : length touched.places < 2 ^ 32
 
--- the edges with an end at a point, by number
-abbrev pub edges_with : (PointEdge → Point) → List Point → List PointEdge → Point → List Edge
-edges_with end points edges point = map (numbered_in points) (filter (λ edge. is_point point (end edge)) edges)
-
 -- the extra edges over an overlay
 abbrev pub extra_over : OverlayParts → List PointEdge
 extra_over overlay = map (limited overlay.limits) (firsts overlay.extra)
@@ -155,6 +152,9 @@ AreReached graph touched count = (k : ℕ) → k < count → IsReached graph tou
 
 -- ---- lists
 
+abbrev pub edges_in : Edges → List Edge
+edges_in list = list.edges.items
+
 -- a node's extra edges, and those of the map over the overlay
 abbrev pub laid_list : Touched → List Edge → List Edge → List Edge
 laid_list touched edges extra = extra ++ filter_map (laid_by touched) edges
@@ -168,12 +168,18 @@ abbrev pub by_number : {X : Type 0} → (ℕ → X) → List Point → List X
 by_number f [] = []
 by_number f (point ∷ points) = f 0 ∷ by_number (λ number. f (suc number)) points
 
--- the graph of a view with further points, which take payments, and with lists that replace some of the view's
+-- the node of a number, with lists that replace some of the view's: a further node takes payments
+abbrev pub node_over : Graph → List ℕ → List (List Edge) → List (List Edge) → ℕ → GraphNode
+node_over graph places into out number = record {
+  accepts_payments = (slice_index_or graph.nodes number (bare_node true)).accepts_payments;
+  into = list_or into (slice_index_or places number 0) (node_at graph number).into;
+  out = list_or out (slice_index_or places number 0) (node_at graph number).out;
+}
+
+-- the graph of a view with further points
 abbrev pub graph_over : Graph → List Point → List ℕ → List (List Edge) → List (List Edge) → Graph
 graph_over graph points places into out = record {
   known = graph.known;
   points = points;
-  accepts_payments = by_number (λ number. slice_index_or graph.accepts_payments number true) points;
-  into = by_number (λ number. list_or into (slice_index_or places number 0) (slice_index_or graph.into number [])) points;
-  out = by_number (λ number. list_or out (slice_index_or places number 0) (slice_index_or graph.out number [])) points;
+  nodes = by_number (node_over graph places into out) points;
 }

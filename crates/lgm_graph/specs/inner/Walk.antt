@@ -14,7 +14,7 @@ use Rattle.lgm_graph.specs.declared.edge.Edge.{Edge}
 use Rattle.lgm_graph.specs.declared.nodes.Nodes.{Nodes}
 use Rattle.lgm_graph.specs.Edges.{PointEdge, edge_on, takes_payments}
 use Rattle.lgm_graph.specs.Graph.{Graph, Shows, IsJoined, IsNumbered, numbered_in, number_of}
-use Rattle.lgm_graph.specs.inner.Sound.{AreLookedAt, ShowsIn}
+use Rattle.lgm_graph.specs.inner.Sound.{ShowsIn}
 
 -- points keep their numbers
 abbrev pub KeepsNumbers : List Point → List Point → Type 0
@@ -28,8 +28,8 @@ pub record HasNumbered (known : Option (List ℕ)) (rows : List NodeRow) (point 
   pub few : length new.points.keys ≤ length old.points.keys + 1
   pub kept : KeepsNumbers old.points.keys new.points.keys
   pub numbered : IsNumbered new.points.keys point
-  pub accepts_payments : AreLookedAt known rows old → AreLookedAt known rows new
-  pub shows : (point_edges : List PointEdge) → ShowsIn point_edges old → ShowsIn point_edges new
+  pub shows : (point_edges : List PointEdge)
+      → ShowsIn (takes_payments known rows) point_edges old → ShowsIn (takes_payments known rows) point_edges new
 
 -- the edge of a direction of a channel
 abbrev pub edge_of_direction : List UpdateRow → ChannelRow → Bool → Option PointEdge
@@ -57,6 +57,5 @@ pub record HasWalked (rows : Rows) (left : List ChannelInfo) (edges : List Edge)
   pub few : length graph.points ≤ 2 * length done
   pub ends : AllByRecursion (λ channel. IsNumbered graph.points channel.message.node_id_1
       × IsNumbered graph.points channel.message.node_id_2) done
-  pub accepts_payments : graph.accepts_payments ≡ map (takes_payments graph.known rows.nodes) graph.points
-  pub bare : Shows [] graph.points graph.into graph.out
+  pub bare : Shows (takes_payments graph.known rows.nodes) [] graph.points graph.nodes
   pub edges_are : AreEdgesOf (flat_map (edges_of_channel rows.updates) done) graph.points edges

@@ -1,14 +1,19 @@
 //! The lists of the nodes that an overlay touches.
 
-ghost use Rattle.std.specs.Prelude.{◌≡◌, [], ◌++◌, ◌≤◌, map, take, length, slice_index_or, option_to_list, IfOk, OnOk};
-ghost use Rattle.lgm_graph.specs.inner.Overlaying.{laid_list, list_or};
-ghost use Rattle.lgm_graph.specs.inner.Sound.{edges_in};
+ghost use Rattle.std.specs.Prelude.{◌≡◌, ◌++◌, ◌≤◌, map, take, length, option_to_list, IfOk, OnOk};
+ghost use Rattle.lgm_graph.specs.Graph.{node_at};
+ghost use Rattle.lgm_graph.specs.inner.Overlaying.{edges_in, laid_list, list_or};
 
 use super::touched_nodes::TouchedNodes;
 use crate::edge::Edge;
-use crate::nodes::Edges;
 use crate::view::View;
 use std::alloc::{AllocError, Global};
+
+/// The edges into a node or out of it, over the overlay.
+#[derive(Drop)]
+pub(super) struct Edges {
+    edges: Vec<Edge>,
+}
 
 /// Appends an edge, if there is one.
 #[inline(always)]
@@ -47,7 +52,7 @@ pub(super) fn lists_into(
     view: &View,
 ) -> Result<Vec<Edges>, AllocError>
     ensures { IfOk result (λ lists. map edges_in lists.items
-        ≡ map (λ said. laid_list touched.now (slice_index_or view.now.into said.node []) said.entering) touched.now.nodes) }
+        ≡ map (λ said. laid_list touched.now (node_at view.now said.node).into said.entering) touched.now.nodes) }
 {
     let mut lists = Vec::new(alloc);
     for node in touched.as_slice() {
@@ -66,7 +71,7 @@ pub(super) fn lists_out(
 ) -> Result<Vec<Edges>, AllocError>
     requires { count ≤ length touched.now.nodes }
     ensures { IfOk result (λ lists. map edges_in lists.items
-        ≡ map (λ said. laid_list touched.now (slice_index_or view.now.out said.node []) said.leaving)
+        ≡ map (λ said. laid_list touched.now (node_at view.now said.node).out said.leaving)
         (take count touched.now.nodes)) }
 {
     let mut lists = Vec::new(alloc);

@@ -3,12 +3,13 @@
 //! A first traversal of the channels numbers their nodes and lists the edges one after the other. Only then are the
 //! lists per node made, each of its final length.
 
-ghost use Rattle.std.specs.Prelude.{◌≡◌, ◌+◌, ◌*◌, ◌<◌, ◌≤◌, ◌^◌, ◌++◌, [], List, length, IfOk, OnOk, option_to_list};
+ghost use Rattle.std.specs.Prelude.{◌≡◌, ◌+◌, ◌*◌, ◌<◌, ◌≤◌, ◌^◌, ◌++◌, [], Bool, List, length, IfOk, OnOk, option_to_list};
+ghost use Rattle.lgm_wire.specs.declared.point.Point.{Point as APoint};
 ghost use Rattle.std.specs.Option.{option_and_then, option_map};
 ghost use Rattle.lgm_store.specs.ChannelInfo.{update_in, stored_at};
-ghost use Rattle.lgm_graph.specs.Edges.{PointEdge, edge_on};
+ghost use Rattle.lgm_graph.specs.Edges.{PointEdge, edge_on, takes_payments};
 ghost use Rattle.lgm_graph.specs.Graph.{IsGraphOf, IsNumbered, numbered_as, number_of};
-ghost use Rattle.lgm_graph.specs.inner.Sound.{AreLookedAt, ShowsIn};
+ghost use Rattle.lgm_graph.specs.inner.Sound.{ShowsIn};
 ghost use Rattle.lgm_graph.specs.inner.Walk.{AreEdgesOf, HasNumbered, KeepsNumbers, edges_of_channel};
 
 use super::number_cache::NumberCache;
@@ -63,9 +64,8 @@ fn add_channel(
     ensures kept { OnOk result (KeepsNumbers nodes.old.points.keys nodes.new.points.keys) }
     ensures first { OnOk result (IsNumbered nodes.new.points.keys stored.now.channel.message.node_id_1) }
     ensures second { OnOk result (IsNumbered nodes.new.points.keys stored.now.channel.message.node_id_2) }
-    ensures accepts_payments { OnOk result
-        (AreLookedAt known.now map.now.nodes nodes.old → AreLookedAt known.now map.now.nodes nodes.new) }
-    ensures bare { OnOk result (ShowsIn [] nodes.old → ShowsIn [] nodes.new) }
+    ensures bare { OnOk result (ShowsIn (takes_payments known.now map.now.nodes) [] nodes.old
+        → ShowsIn (takes_payments known.now map.now.nodes) [] nodes.new) }
     ensures edges { OnOk result ((point_edges : List PointEdge)
         → AreEdgesOf point_edges nodes.old.points.keys edges.old.items
         → AreEdgesOf (point_edges ++ edges_of_channel map.now.updates stored.now.channel)
@@ -142,15 +142,15 @@ fn add_direction(
     Ok(())
 }
 
-/// Adds edges to the lists of their nodes, which have none yet.
+/// Adds edges to the lists of their nodes.
 pub(super) fn put_edges(alloc: Global, nodes: &mut Nodes, edges: &[Edge]) -> Result<(), AllocError>
-    requires bare { ShowsIn [] nodes.old }
+    requires long { length nodes.old.nodes.items ≡ length nodes.old.points.keys }
     requires edges { (point_edges : List PointEdge)
         × AreEdgesOf point_edges nodes.old.points.keys edges.now }
     ensures points { OnOk result (nodes.new.points.keys ≡ nodes.old.points.keys) }
-    ensures accepts_payments { OnOk result (nodes.new.accepts_payments.items ≡ nodes.old.accepts_payments.items) }
-    ensures shows { OnOk result ((point_edges : List PointEdge)
-        → AreEdgesOf point_edges nodes.old.points.keys edges.now → ShowsIn point_edges nodes.new) }
+    ensures shows { OnOk result ((accepts : APoint → Bool) → ShowsIn accepts [] nodes.old
+        → (point_edges : List PointEdge) → AreEdgesOf point_edges nodes.old.points.keys edges.now
+        → ShowsIn accepts point_edges nodes.new) }
 {
     nodes.reserve_for(alloc, edges)?;
     for edge in edges {

@@ -132,7 +132,7 @@ pub fn limited<T>(answer: Result<T, RouteFault>) -> Result<T, LimitedFault> {
     }
 }
 
-/// That a payment over an overlay gets this answer, also from 3 and from 64 workers, and within a limit that no route
+/// That a payment over an overlay gets this answer, also from 1, 3 and 64 workers, and within a limit that no route
 /// reaches.
 pub fn assert_over<Rt: Abort + Threads + Sync>(
     rt: &Rt,
@@ -149,7 +149,7 @@ pub fn assert_over<Rt: Abort + Threads + Sync>(
     assert!(rt; overlay.extra_count() <= 1_000_000);
     let answer = answer_over(alloc, map, &view, &overlay, request);
     assert_answer(rt, alloc, &answer, wanted)?;
-    for workers in [3, 64] {
+    for workers in [1, 3, 64] {
         let pool = Pool {
             rt,
             alloc,

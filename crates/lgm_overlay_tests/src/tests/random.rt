@@ -42,30 +42,55 @@ fn pair(numbers: &mut Numbers) -> (u16, u16) {
     (u16::from(first), u16::from(second))
 }
 
+/// Adds a channel, whose features now and then have an even bit.
+fn push_announcement(
+    items: &mut Vec<Item>,
+    numbers: &mut Numbers,
+    id: u64,
+    nodes: (u16, u16),
+) -> Result<(), AllocError> {
+    let (first, second) = nodes;
+    if numbers.below(12) == 0 {
+        items.push(Item::Even(id, first, second))?;
+    } else {
+        items.push(Item::Channel(id, first, second))?;
+    }
+    Ok(())
+}
+
+/// Adds an update of a direction, which now and then disables it.
+fn push_update(
+    items: &mut Vec<Item>,
+    numbers: &mut Numbers,
+    id: u64,
+    nodes: (u16, u16),
+) -> Result<(), AllocError> {
+    let (from, to) = nodes;
+    let terms = terms(numbers);
+    let way = Way {
+        id,
+        from,
+        to,
+        terms,
+    };
+    if numbers.below(8) == 0 {
+        items.push(Item::Disabled(way))?;
+    } else {
+        items.push(Item::Update(way))?;
+    }
+    Ok(())
+}
+
 /// A channel with updates of one or both of its directions, some of them disabled.
 fn push_channel(items: &mut Vec<Item>, numbers: &mut Numbers, id: u64) -> Result<(), AllocError> {
     let (first, second) = pair(numbers);
-    items.push(if numbers.below(12) == 0 {
-        Item::Even(id, first, second)
-    } else {
-        Item::Channel(id, first, second)
-    })?;
+    push_announcement(items, numbers, id, (first, second))?;
     let which = numbers.below(4);
-    for (other, from, to) in [(0, first, second), (1, second, first)] {
-        if which != other {
-            let terms = terms(numbers);
-            let way = Way {
-                id,
-                from,
-                to,
-                terms,
-            };
-            items.push(if numbers.below(8) == 0 {
-                Item::Disabled(way)
-            } else {
-                Item::Update(way)
-            })?;
-        }
+    if which != 0 {
+        push_update(items, numbers, id, (first, second))?;
+    }
+    if which != 1 {
+        push_update(items, numbers, id, (second, first))?;
     }
     Ok(())
 }

@@ -6,5 +6,5 @@ use Rattle.std.specs.List.{list_any}
 use Rattle.std.specs.Borrow.{Bor}
 
 -- whether the set has a message
-abbrev pub is_known : List (Bor (List ℕ)) → List ℕ → Bool
-is_known keys message = list_any (λ key. is_eq (slice_cmp nat_cmp message key.now)) keys
+abbrev pub has_message : List (Bor (List ℕ)) → List ℕ → Bool
+has_message keys message = list_any (λ key. is_eq (slice_cmp nat_cmp message key.now)) keys

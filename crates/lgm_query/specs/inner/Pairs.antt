@@ -6,17 +6,17 @@ use Rattle.lgm_query.specs.declared.filter.Filter.{Filter}
 use Rattle.lgm_query.specs.declared.pairs.ChannelPair.{ChannelPair}
 use Rattle.lgm_query.specs.declared.pairs.NodePair.{NodePair}
 use Rattle.lgm_query.specs.Backlog.{passing_channel, passing_node}
-use Rattle.lgm_query.specs.KeyNews.{without_known}
+use Rattle.lgm_query.specs.KeyNews.{not_among}
 
 -- what passes of the later rows and didn't of the earlier ones
 abbrev pub news_of_channel_pair : Filter → ChannelPair → List (List ℕ)
 news_of_channel_pair f pair =
-    without_known (option_map_or (passing_channel f) (option_copied pair.before) [])
+    not_among (option_map_or (passing_channel f) (option_copied pair.before) [])
     (passing_channel f pair.after.now)
 
 abbrev pub news_of_node_pair : Filter → NodePair → List (List ℕ)
 news_of_node_pair f pair =
-    without_known (option_map_or (passing_node f) (option_copied pair.before) [])
+    not_among (option_map_or (passing_node f) (option_copied pair.before) [])
     (passing_node f pair.after.now)
 
 abbrev pub news_of_pairs : Filter → List ChannelPair → List NodePair → List (List ℕ)

@@ -6,7 +6,6 @@ use lgm_par::Open as Pieces;
 use lgm_server::RunFault;
 use lgm_test_scripts::Line::{self, Channel, Close, Commit, Node, Open, Pay, Update};
 use lgm_test_scripts::{FREE, ended, script_of, text_of};
-use std::test::Fail;
 
 /// Over the first two channels, or over the third.
 const PAYMENT: Line = Pay(0, 2, 1000, 700_000);
@@ -35,9 +34,13 @@ const ANSWERS: [&str; 5] = [THIRD, THIRD, BOTH, "no-route", "no-route"];
 
 /// To be run with each allocation refused in turn. The writer fails if memory is refused to it.
 #[test]
-fn refused_memory(rt: HostRuntime) -> Result<(), Fail> {
-    let script = script_of(rt.alloc(), &LINES)?;
-    let text = text_of(rt.alloc(), &LINES, &ANSWERS)?;
+fn refused_memory(rt: HostRuntime) {
+    let Ok(script) = script_of(rt.alloc(), &LINES) else {
+        return;
+    };
+    let Ok(text) = text_of(rt.alloc(), &LINES, &ANSWERS) else {
+        return;
+    };
     let known = Known::all();
     let (ended, writer) = ended(
         &rt,
@@ -55,5 +58,4 @@ fn refused_memory(rt: HostRuntime) -> Result<(), Fail> {
             assert!(rt; text.as_bytes().starts_with(writer.taken()));
         }
     }
-    Ok(())
 }

@@ -36,7 +36,7 @@ filters_after chain filters _ = filters
 -- the answer to a question: its text, and the filters after it
 pub record IsAnswerTo (chain : ChainHash) (known : Option (List ℕ)) (committed : Rows) (request : Command)
     (answer : Answer) : Type 0 where
-  pub text : (n : ℕ) → answer_text n answer ≡ question_text chain known committed n request
+  pub text : (n : ℕ) → answer_text chain committed n answer ≡ question_text chain known committed n request
   pub filters : (filters : List PeerFilter) → filters_by filters answer ≡ filters_after chain filters request
 
 -- the filters after several

@@ -1,7 +1,7 @@
 -- Sets of channel ids.
 use Rattle.std.specs.Prelude.{ℕ, Bool, not, ◌==◌, List, [], ◌∷◌}
-use Rattle.lgm_store.specs.declared.scid_set.Place.{Place}
-use Rattle.lgm_store.specs.declared.scid_set.Place.TheVariants.{One, Many}
+use Rattle.lgm_store.specs.declared.scid_set.OneOrMany.{OneOrMany}
+use Rattle.lgm_store.specs.declared.scid_set.OneOrMany.TheVariants.{One, Many}
 use Rattle.lgm_store.specs.inner.ChannelsByNode.{with_id}
 
 -- a set with more ids
@@ -10,7 +10,7 @@ collected set [] = set
 collected set (id ∷ ids) = collected (with_id set id) ids
 
 -- the ids, wherever they are stored
-abbrev pub ids_in : Place → List ℕ
+abbrev pub ids_in : OneOrMany → List ℕ
 ids_in (One id) = id ∷ []
 ids_in (Many ids) = collected [] ids.items
 

@@ -9,7 +9,7 @@ ghost use Rattle.lgm_store.specs.inner.Decided.{channel_verdict, node_verdict};
 ghost use Rattle.lgm_store.specs.Spelled.{IsSpelled};
 
 use super::Map;
-use crate::checked_message::{CheckedMessage, Kind};
+use crate::checked_message::{CheckedMessage, StoredMessage};
 use crate::op::Op;
 use crate::shared::Shared;
 use lgm_check::{
@@ -69,17 +69,17 @@ impl Map {
     pub fn admit_checked(&self, alloc: Global, message: CheckedMessage) -> Result<Op, Refusal>
         ensures { Offers result (admitted self.now message) }
     {
-        let CheckedMessage { kind } = message;
-        match kind {
-            Kind::Channel(row) => match self.admit_channel(&row.get().row())? {
+        let CheckedMessage { stored } = message;
+        match stored {
+            StoredMessage::Channel(row) => match self.admit_channel(&row.get().row())? {
                 Some(ban) => Ok(Op::Ban(Shared::new(alloc, ban)?)),
                 None => Ok(Op::Channel(row)),
             },
-            Kind::Update(row, signer) => {
+            StoredMessage::Update(row, signer) => {
                 self.admit_update(&row.get().row(), &signer)?;
                 Ok(Op::Update(row))
             }
-            Kind::Node(row) => {
+            StoredMessage::Node(row) => {
                 self.admit_node(&row.get().row())?;
                 Ok(Op::Node(row))
             }

@@ -7,7 +7,7 @@ ghost use Rattle.lgm_store.specs.Admission.{node_admission, admitted, admitted_c
 ghost use Rattle.lgm_store.specs.History.{absorbed};
 
 use super::Map;
-use crate::checked_message::{CheckedMessage, Kind};
+use crate::checked_message::{CheckedMessage, StoredMessage};
 use crate::lookahead::lookup::Hint;
 use crate::op::Op;
 use crate::shared::Shared;
@@ -42,11 +42,11 @@ impl Map {
         ensures accepted { IfOk result (λ op. self.new ≡ absorbed self.old op) }
         ensures refused { OnErr result (self.new ≡ self.old) }
     {
-        let CheckedMessage { kind } = message;
-        match kind {
-            Kind::Channel(row) => self.offer_channel(alloc, row),
-            Kind::Update(row, signer) => self.offer_update(row, &signer, hint),
-            Kind::Node(row) => self.offer_node(row),
+        let CheckedMessage { stored } = message;
+        match stored {
+            StoredMessage::Channel(row) => self.offer_channel(alloc, row),
+            StoredMessage::Update(row, signer) => self.offer_update(row, &signer, hint),
+            StoredMessage::Node(row) => self.offer_node(row),
         }
     }
 

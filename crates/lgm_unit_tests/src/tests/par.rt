@@ -59,12 +59,13 @@ fn double(x: &u32) -> u64 {
     u64::from(*x) * 2
 }
 
-/// Ten items in three pieces, fewer items than workers, and no items. A bit for each piece that passed.
+/// Ten items in three pieces and in one, fewer items than workers, and no items. A bit for each piece that passed.
 #[test]
 fn items_in_pieces(rt: HostRuntime) {
     let ten = [1, 2, 3, 4, 5, 6, 7, 8, 9, 10];
-    let cases: [(usize, &[u32], &[u64], u64, u64); 3] = [
+    let cases: [(usize, &[u32], &[u64], u64, u64); 4] = [
         (3, &ten, &[2, 4, 6, 8, 10, 12, 14, 16, 18, 20], 3, 7),
+        (1, &ten, &[2, 4, 6, 8, 10, 12, 14, 16, 18, 20], 1, 1),
         (64, &[1, 2, 3], &[2, 4, 6], 3, 7),
         (4, &[], &[], 0, 0),
     ];
@@ -165,4 +166,26 @@ fn pieces_of_four_three_and_three(rt: HostRuntime) {
         gate.turns.load(Ordering::SeqCst) < LIMIT,
         "ended at the limit"
     );
+}
+
+// An item's answer is how many were done before it.
+#[test]
+fn one_worker_takes_the_items_in_order(rt: HostRuntime) {
+    let items = [0u32; 10];
+    let gate = counting();
+    let done = AtomicU64::new(0);
+    let answers = map_chunks(
+        &rt,
+        rt.alloc(),
+        1,
+        &gate,
+        &items,
+        &|_item| { done.fetch_add(1, Ordering::SeqCst) },
+    )
+    .expect(&rt, "memory");
+    assert_eq!(rt;
+        answers.as_slice(),
+        [0, 1, 2, 3, 4, 5, 6, 7, 8, 9].as_slice()
+    );
+    assert_eq!(rt; gate.begun.load(Ordering::SeqCst), 1);
 }

@@ -3,6 +3,7 @@
 mod boards;
 mod refused;
 mod shown;
+mod two_channels;
 mod worlds;
 
 use lgm_gossip::Scid;

@@ -174,10 +174,11 @@ impl Gate for Pairs {
     }
 }
 
-/// The route of a payment from node 0 that two workers find behind this gate.
-fn found_by_two(
+/// The route of a payment from node 0 that these workers find behind this gate.
+fn found_by(
     rt: &(impl Abort + Threads + Sync),
     alloc: Global,
+    workers: usize,
     gate: &Pairs,
     map: &Map,
     to: u16,
@@ -191,42 +192,60 @@ fn found_by_two(
         amount,
         expiry: 700_000,
     };
-    Ok(least_chunked(rt, alloc, 2, gate, &view, &request))
+    let workers = workers.clamp(1, 64);
+    Ok(least_chunked(rt, alloc, workers, gate, &view, &request))
 }
 
-/// The payee is relaxed alone, which is the first pass, and then both nodes before it at once, a chunk for each. Of
-/// routes that send the same over as many channels the one of the least ids is taken.
-#[test]
-fn two_pieces_at_once(rt: HostRuntime) -> Result<(), Fail> {
-    let alloc = rt.alloc();
+/// Two ways from node 0 to node 3 that send the same over as many channels.
+fn two_ways(alloc: Global) -> Result<Map, AllocError> {
     let mut map = Map::new(alloc)?;
     for (block, from, to) in [(1, 0, 1), (2, 0, 2), (3, 1, 3), (4, 2, 3)] {
         join(&mut map, alloc, Scid::new(block, 0, 0), from, to, &FREE)?;
     }
+    Ok(map)
+}
+
+/// The one of the least ids: what it sends, its expiry, and its ids.
+fn least_ids() -> [u64; 4] {
+    let (first, second) = (Scid::new(1, 0, 0), Scid::new(3, 0, 0));
+    [1000, 700_040, first.to_u64(), second.to_u64()]
+}
+
+/// The payee is relaxed alone, which is the first pass, and then both nodes before it at once, a chunk for each.
+#[test]
+fn two_pieces_at_once(rt: HostRuntime) -> Result<(), Fail> {
+    let alloc = rt.alloc();
+    let map = two_ways(alloc)?;
     let gate = Pairs::new();
-    let found = found_by_two(&rt, alloc, &gate, &map, 3, 1000)?;
-    let ids = [
-        1000,
-        700_040,
-        Scid::new(1, 0, 0).to_u64(),
-        Scid::new(3, 0, 0).to_u64(),
-    ];
-    assert_route(&rt, alloc, found, &ids)?;
+    let found = found_by(&rt, alloc, 2, &gate, &map, 3, 1000)?;
+    assert_route(&rt, alloc, found, &least_ids())?;
     let turns = gate.turns.load(Ordering::SeqCst);
     assert!(rt; 0 < turns && turns < LIMIT, "ended at the limit");
     assert_eq!(rt; gate.passes.load(Ordering::SeqCst), 3);
     Ok(())
 }
 
+/// One worker finds the same one, and no second chunk passes.
+#[test]
+fn one_worker_breaks_ties_by_ids(rt: HostRuntime) -> Result<(), Fail> {
+    let alloc = rt.alloc();
+    let map = two_ways(alloc)?;
+    let gate = Pairs::new();
+    let found = found_by(&rt, alloc, 1, &gate, &map, 3, 1000)?;
+    assert_route(&rt, alloc, found, &least_ids())?;
+    assert_eq!(rt; gate.ones.load(Ordering::SeqCst), 0);
+    Ok(())
+}
+
 /// How many nodes with one channel, to the payee, are enough for two workers late in a search.
 const MANY: u16 = 3_200;
 
+/// The payee of the map of dead ends.
+const PAYEE: u16 = MANY + 3;
+
 /// Nodes 1 and 2 each charge as much as they forward: the only route sends 40,000 msat, of which the payee gets 10,000.
-/// The other nodes each charge less, so they are relaxed before they turn out to be dead ends: the last ones by
-/// two workers at once.
-#[test]
-fn two_pieces_of_a_layer(rt: HostRuntime) -> Result<(), Fail> {
-    let alloc = rt.alloc();
+/// The other nodes each charge less, so they are relaxed before they turn out to be dead ends.
+fn dead_ends(alloc: Global) -> Result<Map, AllocError> {
     let mut map = Map::new(alloc)?;
     let twice = Terms {
         millionths: 1_000_000,
@@ -234,17 +253,26 @@ fn two_pieces_of_a_layer(rt: HostRuntime) -> Result<(), Fail> {
     };
     join(&mut map, alloc, Scid::from_u64(1), 0, 1, &FREE)?;
     join(&mut map, alloc, Scid::from_u64(2), 1, 2, &twice)?;
-    let payee = MANY + 3;
-    join(&mut map, alloc, Scid::from_u64(3), 2, payee, &twice)?;
-    for node in 3..payee {
+    join(&mut map, alloc, Scid::from_u64(3), 2, PAYEE, &twice)?;
+    for node in 3..PAYEE {
         let base = u32::from(node);
         let scid = Scid::new(base, 0, 0);
-        join(&mut map, alloc, scid, node, payee, &Terms { base, ..FREE })?;
+        join(&mut map, alloc, scid, node, PAYEE, &Terms { base, ..FREE })?;
     }
-    let gate = Pairs::new();
-    let found = found_by_two(&rt, alloc, &gate, &map, payee, 10_000)?;
-    assert_route(&rt, alloc, found, &[40_000, 700_080, 1, 2, 3])?;
-    assert_eq!(rt; gate.ones.load(Ordering::SeqCst), 1);
+    Ok(map)
+}
+
+/// The last dead ends are relaxed by two workers at once, and all of them by one worker alone.
+#[test]
+fn two_pieces_of_a_layer(rt: HostRuntime) -> Result<(), Fail> {
+    let alloc = rt.alloc();
+    let map = dead_ends(alloc)?;
+    for (workers, seconds) in [(2, 1), (1, 0)] {
+        let gate = Pairs::new();
+        let found = found_by(&rt, alloc, workers, &gate, &map, PAYEE, 10_000)?;
+        assert_route(&rt, alloc, found, &[40_000, 700_080, 1, 2, 3])?;
+        assert_eq!(rt; gate.ones.load(Ordering::SeqCst), seconds);
+    }
     Ok(())
 }
 

@@ -3,7 +3,7 @@
 use super::examples::{Example, assert_all};
 use std::test::Fail;
 
-const NEWS: Example = Example {
+pub const NEWS: Example = Example {
     name: "news are what the map before didn't give, and a new filter gets a backlog",
     script: "filter 7 [0109 H 00000000 ffffffff]\n\
         m ca(600000x1x0,A,B) all 100000\n\

@@ -25,7 +25,7 @@ const EMPTY: Example = Example {
     text: "",
 };
 
-const TIMESTAMPS: Example = Example {
+pub const TIMESTAMPS: Example = Example {
     name: "an update must be newer than that of its direction",
     script: "m ca(600000x1x0,A,B) all 100000\n\
         m cu(600000x1x0,0,5) A -\n\
@@ -87,7 +87,7 @@ const GRAMMAR: Example = Example {
         7 commit 0\n",
 };
 
-const CLOSES: Example = Example {
+pub const CLOSES: Example = Example {
     name: "a node's announcement goes with its last channel",
     script: "m ca(1x0x0,A,B) all 100000\n\
         m na(B,5) B -\n\
@@ -123,7 +123,7 @@ const CONTRADICTION: Example = Example {
         4 commit 2\n",
 };
 
-const BANS: Example = Example {
+pub const BANS: Example = Example {
     name: "the nodes of both announcements are banned, and their channels go",
     script: "m cu(600000x1x0,0,5) A -\n\
         m ca(600000x1x0,A,B) all 100000\n\
@@ -149,7 +149,7 @@ const BANS: Example = Example {
         11 commit 4\n",
 };
 
-const LONELY: Example = Example {
+pub const LONELY: Example = Example {
     name: "a ban takes the announcement of a node that loses its last channel, though it isn't banned",
     script: "m ca(1x0x0,A,B) all 100000\n\
         m ca(2x0x0,B,C) all 100000\n\

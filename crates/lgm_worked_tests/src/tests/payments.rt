@@ -22,7 +22,7 @@ pub const FEES: Example = Example {
         6 hop 600000x1x0 [2f 02034c4b3f 04030aae69 0823 S 4c4b3f]\n",
 };
 
-const COMMITTED: Example = Example {
+pub const COMMITTED: Example = Example {
     name: "a maximum counts from the commit on",
     script: "m ca(600000x0x0,A,B) all 100000\n\
         m cu(600000x0x0,0,1,max=50000) A -\n\
@@ -100,7 +100,7 @@ fn amounts_and_fees(rt: HostRuntime) -> Result<(), Fail> {
     assert_all(&rt, rt.alloc(), &[FEES, COMMITTED, MINIMUM, GREATEST])
 }
 
-const FEWER: Example = Example {
+pub const FEWER: Example = Example {
     name: "of those that send the same that of fewer channels, and of these the lesser id",
     script: "m ca(600000x0x0,A,B) all 100000\n\
         m cu(600000x0x0,0,1) A -\n\
@@ -238,7 +238,7 @@ fn which_route_is_taken(rt: HostRuntime) -> Result<(), Fail> {
     assert_all(&rt, rt.alloc(), &examples)
 }
 
-const CARRIED: Example = Example {
+pub const CARRIED: Example = Example {
     name: "which updates are edges",
     script: "m ca(1x0x0,A,B) all 100000\n\
         m cu(1x0x0,0,1,max=100000000) A -\n\
@@ -311,7 +311,7 @@ const FEATURES: &str = "m ca(600000x0x0,A,B) all 100000\n\
     commit\n\
     route A C 4999999 700009 S\n";
 
-const KNOWN: Example = Example {
+pub const KNOWN: Example = Example {
     name: "what B wants is known",
     script: FEATURES,
     text: "1 accepted\n\

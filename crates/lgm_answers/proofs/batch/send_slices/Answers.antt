@@ -3,7 +3,7 @@ use Rattle.std.specs.List.{flat_map}
 use Rattle.std.proofs.lemmas.List.{drop_more, drop_all}
 use Rattle.std.proofs.lemmas.Result.{err_from_is_err_and}
 use Rattle.lgm_script.specs.Text.{message_behind}
-use Rattle.lgm_script.proofs.Telling.{onward_first, onward_more, onward_stops, onward_ends}
+use Rattle.lgm_script.proofs.WrittenTextLaws.{onward_first, onward_more, onward_stops, onward_ends}
 use Rattle.lgm_answers.proofs.batch.send_slices.Goals as goal
 
 abbrev lines : List ℕ → List (Bor (List ℕ)) → List ℕ

@@ -2,7 +2,7 @@ use Rattle.std.proofs.Common.{map, drop}
 use Rattle.std.specs.List.{flat_map}
 use Rattle.lgm_script.specs.Output.{told_by}
 use Rattle.lgm_script.specs.Text.{message_behind}
-use Rattle.lgm_script.proofs.Telling.{Onward}
+use Rattle.lgm_script.proofs.WrittenTextLaws.{Onward}
 use Rattle.lgm_answers.proofs.batch.send_slices.Given as goal
 
 -- the lines of the first messages were told

@@ -3,7 +3,7 @@ use Rattle.std.specs.Prelude.{min}
 use Rattle.std.proofs.lemmas.Result.{err_from_is_err_and}
 use Rattle.lgm_script.specs.Output.{told_by, Tells, TellsPart}
 use Rattle.lgm_script.specs.Text.{hop_line}
-use Rattle.lgm_script.proofs.Telling.{onward_more, onward_stops, onward_ends}
+use Rattle.lgm_script.proofs.WrittenTextLaws.{onward_more, onward_stops, onward_ends}
 use Rattle.lgm_answers.proofs.Hops.{hop_there, hops_end}
 use Rattle.lgm_answers.proofs.route.send_hops.Goals as goal
 

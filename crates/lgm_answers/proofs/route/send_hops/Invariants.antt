@@ -1,5 +1,5 @@
 use Rattle.lgm_script.specs.Output.{told_by}
-use Rattle.lgm_script.proofs.Telling.{Onward}
+use Rattle.lgm_script.proofs.WrittenTextLaws.{Onward}
 use Rattle.lgm_answers.specs.Answer.{hops_text}
 use Rattle.lgm_answers.proofs.Hops.{hops_from}
 use Rattle.lgm_answers.proofs.route.send_hops.Given as goal

@@ -2,7 +2,7 @@ use Rattle.std.proofs.Common.{length}
 use Rattle.std.proofs.lemmas.Result.{err_from_is_err_and}
 use Rattle.lgm_script.specs.Output.{told_by, Tells, TellsPart}
 use Rattle.lgm_script.specs.Text.{route_line}
-use Rattle.lgm_script.proofs.Telling.{tells_part_more, written_behind}
+use Rattle.lgm_script.proofs.WrittenTextLaws.{tells_part_more, written_behind}
 use Rattle.lgm_graph.specs.Route.{sent, expiry}
 use Rattle.lgm_answers.proofs.route.send_route.Goals as goal
 

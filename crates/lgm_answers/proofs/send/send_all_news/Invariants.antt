@@ -1,7 +1,7 @@
 use Rattle.std.specs.List.{flat_map}
 use Rattle.std.specs.Map.{values_of}
 use Rattle.lgm_script.specs.Output.{told_by}
-use Rattle.lgm_script.proofs.Telling.{Onward}
+use Rattle.lgm_script.proofs.WrittenTextLaws.{Onward}
 use Rattle.lgm_answers.specs.Answer.{news_text}
 use Rattle.lgm_answers.proofs.send.send_all_news.Given as goal
 

@@ -1,5 +1,5 @@
 use Rattle.std.proofs.lemmas.Result.{err_from_is_err_and}
-use Rattle.lgm_script.proofs.Telling.{tells_none}
+use Rattle.lgm_script.proofs.WrittenTextLaws.{tells_none}
 use Rattle.lgm_answers.proofs.send.send_range.Goals as goal
 
 pub returns-in_err-replies : goal.returns-in_err-replies

@@ -1,48 +1,17 @@
-use Rattle.std.proofs.Common.{◌≡◌, ◌+◌, ◌<◌, ◌≤◌, ◌∷◌, ◌++◌, List, ℕ, length, get_or, drop, sym, ap, ◌∙◌}
-use Rattle.std.specs.List.{flat_map}
-use Rattle.std.proofs.lemmas.List.{drop_more, drop_all}
-use Rattle.std.proofs.lemmas.Result.{err_from_is_err_and}
-use Rattle.lgm_script.specs.Text.{message_behind}
-use Rattle.lgm_script.proofs.Telling.{onward_first, tells_none}
-use Rattle.lgm_answers.proofs.Batches.{onward_added, added_stops, sends_rest}
+use Rattle.std.proofs.Common.{List, ℕ, Bor, map, Option, subst, rules}
+use Rattle.std.specs.Iterator.{AlwaysYields}
+use Rattle.std.proofs.lemmas.List.{map-id}
+use Rattle.std.proofs.lemmas.Iterator.{YieldsList, YieldsList-from_slice, YieldsList-from_map_by}
 use Rattle.lgm_answers.proofs.send.send_replies.Goals as goal
 
--- the message at a place, and those behind it
-message_there : (front : List ℕ) (place : ℕ) (messages : List (List ℕ)) (item sent : List ℕ) → place < length messages
-    → item ≡ get_or messages place item → sent ≡ item
-    → flat_map (message_behind front) (drop place messages)
-    ≡ message_behind front sent ++ flat_map (message_behind front) (drop (place + 1) messages)
-message_there front place messages item sent within here same =
-    ap (flat_map (message_behind front)) (drop_more messages place item within
-    ∙ ap (λ (m : List ℕ). m ∷ drop (place + 1) messages) (sym (same ∙ here)))
-
-pub returns-in_err-batch : goal.returns-in_err-batch
-returns-in_err-batch g c =
-    let p = err_from_is_err_and c.from_residual.result c.from_residual.ensures.1 in
-    rw (p.1, p.2) (tells_none _ _)
-
-pub loop-message-init : goal.loop-message-init
-loop-message-init g c =
-    onward_first _ _ _ (ap (λ waiting. flat_map (message_behind c.args.lead.now) waiting
-    ++ flat_map (message_behind c.args.lead.now) c.args.messages.now) (sym c.in_ok-batch.ensures))
-
-pub loop-message-preserved : goal.loop-message-preserved
-loop-message-preserved g c =
-    onward_added _ _ _ _ _ _ c.loop-message.invariant _ _ _
-    (message_there c.args.lead.now c.loop-message.message-index c.args.messages.now c.message-item.result
-    c.as_slice.result.now c.loop-message-test.true c.message-item.is c.as_slice.ensures)
-    c.in_ok-add.ensures.adds
-
-pub returns-in_err-add : goal.returns-in_err-add
-returns-in_err-add g c =
-    let p = err_from_is_err_and c.from_residual-in_err-add.result c.from_residual-in_err-add.ensures.1 in
-    rw (p.1, p.2) (added_stops _ _ _ _ _ _ c.loop-message.invariant _ _ _
-    (message_there c.args.lead.now c.loop-message.message-index c.args.messages.now c.message-item.result
-    c.as_slice.result.now c.loop-message-test.true c.message-item.is c.as_slice.ensures)
-    c.in_err-add.ensures.adds)
+-- each message is given as it is
+as_they_are : {S A : Type 0} {steps : S → Option A → S → Type 0} {shown : A → List ℕ} {s : S} (messages : List (List ℕ))
+    → YieldsList steps shown s (map (λ (m : List ℕ). m) messages) → AlwaysYields steps shown s messages
+as_they_are {steps} {shown} {s} messages gives = subst (AlwaysYields steps shown s) (map-id messages) gives.runs
 
 pub returns : goal.returns
 returns g c =
-    let past : length c.args.messages.now ≤ c.loop-message.message-index = c.loop-message-test.false in
-    sends_rest _ _ _ _ _ _ c.loop-message.invariant (ap (flat_map (message_behind c.args.lead.now))
-    (drop_all c.loop-message.message-index c.args.messages.now past)) c.send.result c.send.ensures.written
+    let messages = c.as_slice.result.now in
+    rw (← c.as_slice.ensures) (c.send_messages.ensures messages
+    (as_they_are messages (YieldsList-from_map_by {s = c.map-messages.result} _ (λ (r : Bor (List ℕ)). r.now)
+    (λ (m : List ℕ). m) (YieldsList-from_slice messages cc) c.map-messages.ensures.closure (λ x r q k. search rules))))

@@ -1,7 +1,7 @@
 use Rattle.std.proofs.Common.{◌∙◌, codes}
 use Rattle.std.proofs.lemmas.Result.{err_from_is_err_and}
 use Rattle.lgm_script.specs.Output.{told_by, Tells, TellsPart}
-use Rattle.lgm_script.proofs.Telling.{tells_none, tells_part_more, written_behind}
+use Rattle.lgm_script.proofs.WrittenTextLaws.{tells_none, tells_part_more, written_behind}
 use Rattle.lgm_live.specs.Text.{at_line}
 use Rattle.lgm_live.proofs.SlotTexts.{version_line}
 use Rattle.lgm_live.proofs.write_answers.tell_answer.Goals as goal
@@ -26,4 +26,4 @@ returns g c =
     let line : Tells (told_by g.W.Sink.seen c.args.output.now) (told_by g.W.Sink.seen c.send.new.self)
     (at_line c.args.number c.args.answer.now.version (codes "same")) =
     rw (← is) c.in_ok-send.ensures in
-    written_behind c.tell_result.result _ _ _ _ _ line c.tell_result.ensures
+    written_behind c.send_found.result _ _ _ _ _ line c.send_found.ensures

@@ -1,5 +1,5 @@
 use Rattle.std.proofs.Common.{◌∙◌}
-use Rattle.lgm_script.proofs.Telling.{writer_stays}
+use Rattle.lgm_script.proofs.WrittenTextLaws.{writer_stays}
 use Rattle.lgm_live.proofs.Parts.{part_written, part_flushed, part_fails}
 use Rattle.lgm_live.proofs.write_answers.write_answers.Goals as goal
 

@@ -1,7 +1,7 @@
 use Rattle.std.proofs.Common.{refl, ap, subst, ◌∙◌, get_or, arith}
 use Rattle.std.proofs.lemmas.Result.{err_from_is_err_and}
 use Rattle.lgm_script.specs.Output.{told_by, Tells, TellsPart}
-use Rattle.lgm_script.proofs.Telling.{tells_nothing}
+use Rattle.lgm_script.proofs.WrittenTextLaws.{tells_nothing}
 use Rattle.lgm_live.specs.declared.parsed_script.LineAnswer.TheVariants as line_answers
 use Rattle.lgm_live.specs.inner.Telling.{place_passed}
 use Rattle.lgm_live.proofs.SlotTexts.{no_text, place_more, text_at, text_here, one_more, stops}

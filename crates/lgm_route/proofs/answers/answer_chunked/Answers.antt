@@ -1,7 +1,7 @@
 use Rattle.lgm_graph.specs.Edges.{edges_of}
 use Rattle.lgm_graph.specs.Graph.{point_edges}
 use Rattle.lgm_graph.proofs.ViewEdgeLaws.{are_keyed}
-use Rattle.lgm_route.proofs.Choosing.{answered}
+use Rattle.lgm_route.proofs.ChoiceLaws.{answered}
 use Rattle.lgm_route.proofs.answers.answer_chunked.Goals as goal
 
 pub returns-clause-answer : goal.returns-clause-answer

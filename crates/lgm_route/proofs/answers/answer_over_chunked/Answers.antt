@@ -1,7 +1,7 @@
 use Rattle.lgm_graph.specs.Graph.{point_edges}
 use Rattle.lgm_graph.specs.Overlay.{overlaid_edges}
 use Rattle.std.proofs.Common.{◌∙◌, sym}
-use Rattle.lgm_route.proofs.Choosing.{answered-reordered, answered-refused}
+use Rattle.lgm_route.proofs.ChoiceLaws.{answered-reordered, answered-refused}
 use Rattle.lgm_route.proofs.answers.answer_over_chunked.Goals as goal
 
 pub returns-in-Some-clause-answer : goal.returns-in-Some-clause-answer

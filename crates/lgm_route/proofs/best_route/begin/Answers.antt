@@ -1,7 +1,7 @@
 use Rattle.std.proofs.Common.{ap, sym, subst}
 use Rattle.lgm_graph.specs.Graph.{edges}
 use Rattle.lgm_route.specs.inner.Searching.{IsUpperBound}
-use Rattle.lgm_route.specs.inner.State.{Ground}
+use Rattle.lgm_route.specs.inner.SearchState.{Ground}
 use Rattle.lgm_route.proofs.best_route.begin.Goals as goal
 
 pub returns : goal.returns

@@ -1,7 +1,7 @@
 use Rattle.std.proofs.Common.{◌∙◌, sym, subst}
 use Rattle.lgm_graph.specs.Graph.{edges}
 use Rattle.lgm_route.specs.inner.Searching.{IsUpperBound}
-use Rattle.lgm_route.specs.inner.State.{Ground}
+use Rattle.lgm_route.specs.inner.SearchState.{Ground}
 use Rattle.lgm_route.proofs.best_route.best_walk_chunked.Goals as goal
 
 pub best_walk-requires-clause-upper_bound : goal.best_walk-requires-clause-upper_bound

@@ -6,7 +6,7 @@ use Rattle.lgm_route.specs.declared.request.NumberedRequest.{NumberedRequest}
 use Rattle.lgm_route.specs.inner.Searching.{AreCarried}
 use Rattle.lgm_route.specs.inner.Best.{IsBestWalk, AreNumbered, edges_in}
 use Rattle.lgm_route.specs.Routes.{hops_of}
-use Rattle.lgm_route.proofs.Crossing.{over, none_over, least_over}
+use Rattle.lgm_route.proofs.PointWalkLaws.{over, none_over, least_over}
 use Rattle.lgm_route.proofs.Rests.{carried_under}
 use Rattle.lgm_route.proofs.HopLaws.{walk_numbered}
 use Rattle.lgm_route.proofs.best_route.hops_of.Goals as goal

@@ -1,5 +1,5 @@
 use Rattle.std.proofs.Common.{sym}
-use Rattle.lgm_route.proofs.Crossing.{none_from, none_to}
+use Rattle.lgm_route.proofs.PointWalkLaws.{none_from, none_to}
 use Rattle.lgm_route.proofs.best_route.numbering_of.Goals as goal
 
 pub returns-in_default : goal.returns-in_default

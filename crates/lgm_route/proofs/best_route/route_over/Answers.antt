@@ -2,7 +2,7 @@ use Rattle.std.proofs.Common.{length, ap, inr, subst, arith}
 use Rattle.std.specs.Option.{option_map}
 use Rattle.lgm_graph.specs.Graph.{point_edges}
 use Rattle.lgm_route.specs.inner.Best.{IsBestFor}
-use Rattle.lgm_route.proofs.Crossing.{least_parts, found_none}
+use Rattle.lgm_route.proofs.PointWalkLaws.{least_parts, found_none}
 use Rattle.lgm_route.proofs.HopLaws.{length_hops}
 use Rattle.lgm_route.proofs.best_route.route_over.Goals as goal
 

@@ -1,5 +1,5 @@
 use Rattle.std.proofs.Common.{rules}
-use Rattle.lgm_par.proofs.Zipping.{zip_weaker_ok}
+use Rattle.lgm_par.proofs.PlacewiseLaws.{zip_weaker_ok}
 use Rattle.lgm_route.proofs.frontier.all_relaxations.Goals as goal
 
 pub returns : goal.returns

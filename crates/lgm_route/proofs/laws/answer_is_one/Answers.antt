@@ -1,4 +1,4 @@
-use Rattle.lgm_route.proofs.Choosing.{tried, answer-unique}
+use Rattle.lgm_route.proofs.ChoiceLaws.{tried, answer-unique}
 use Rattle.lgm_route.specs.Choice.{answer_of}
 use Rattle.lgm_route.proofs.laws.answer_is_one.Goals as goal
 

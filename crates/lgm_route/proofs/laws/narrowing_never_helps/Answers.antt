@@ -1,4 +1,4 @@
-use Rattle.lgm_route.proofs.Narrowing.{narrowing_never_helps}
+use Rattle.lgm_route.proofs.NarrowedEdgeLaws.{narrowing_never_helps}
 use Rattle.lgm_route.proofs.laws.narrowing_never_helps.Goals as goal
 
 pub returns : goal.returns

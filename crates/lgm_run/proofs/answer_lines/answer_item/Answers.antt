@@ -1,8 +1,5 @@
-use Rattle.std.proofs.lemmas.Result.{err_from_is_err_and}
-use Rattle.lgm_script.proofs.Telling.{tells_none}
+use Rattle.lgm_script.proofs.WrittenTextLaws.{tells_none}
 use Rattle.lgm_run.proofs.answer_lines.answer_item.Goals as goal
 
-pub returns-in_err-offer-clause-written : goal.returns-in_err-offer-clause-written
-returns-in_err-offer-clause-written g c =
-    let p = err_from_is_err_and c.from_residual.result c.from_residual.ensures.1 in
-    rw (p.1, p.2) (tells_none _ _)
+pub returns-in-Err-NoMemory-clause-written : goal.returns-in-Err-NoMemory-clause-written
+returns-in-Err-NoMemory-clause-written g c = tells_none _ _

@@ -5,7 +5,7 @@ use Rattle.std.proofs.lemmas.List.{length-map, nil_from_length}
 use Rattle.std.proofs.lemmas.Result.{err_from_is_err_and, IfOk-at_ok}
 use Rattle.std.proofs.lemmas.Slice.Zip.{AllZip-long}
 use Rattle.lgm_script.specs.Command.{command_of}
-use Rattle.lgm_script.proofs.Telling.{tells_none, onward_first}
+use Rattle.lgm_script.proofs.WrittenTextLaws.{tells_none, onward_first}
 use Rattle.lgm_run.specs.inner.CheckedItem.{offered_in}
 use Rattle.lgm_run.specs.inner.Questions.{asked_in}
 use Rattle.lgm_run.proofs.AlikeRequestLaws.{IsItemOf, items_of}

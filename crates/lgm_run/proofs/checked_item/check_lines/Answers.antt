@@ -1,7 +1,7 @@
 use Rattle.std.proofs.Common.{◌≡◌, rules}
 use Rattle.std.specs.Prelude.{IfOk}
 use Rattle.lgm_script.specs.Command.{command_of}
-use Rattle.lgm_par.proofs.Zipping.{zip_weaker_ok}
+use Rattle.lgm_par.proofs.PlacewiseLaws.{zip_weaker_ok}
 use Rattle.lgm_run.specs.inner.CheckedItem.{offered_in}
 use Rattle.lgm_run.proofs.Zips.{zip_of_ok}
 use Rattle.lgm_run.proofs.checked_item.check_lines.Goals as goal

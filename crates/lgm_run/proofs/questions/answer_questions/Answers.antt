@@ -4,7 +4,7 @@ use Rattle.std.specs.List.{AllZip}
 use Rattle.std.proofs.lemmas.List.{length-map, drop_all}
 use Rattle.std.proofs.lemmas.Result.{err_from_is_err_and, IfOk-at_ok}
 use Rattle.std.proofs.lemmas.Slice.Zip.{AllZip-long}
-use Rattle.lgm_script.proofs.Telling.{tells_none, onward_first}
+use Rattle.lgm_script.proofs.WrittenTextLaws.{tells_none, onward_first}
 use Rattle.lgm_script.specs.Command.{command_of}
 use Rattle.lgm_run.specs.inner.Questions.{asked_in, IsAnswerTo}
 use Rattle.lgm_run.proofs.Turning.{turn_at, all_done}
@@ -46,8 +46,8 @@ loop-answer-preserved g c =
     record {
       number = omega (arith, inv.number);
       many = inv.many;
-      left = turn.goes_on _ _ _ (c.in_ok-write_answer.ensures.filters ∙ answer.filters c.loop-answer.filters)
-          (answer.text c.loop-answer.number) c.in_ok-write_answer.ensures.written;
+      left = turn.goes_on _ _ _ (c.in_ok-send.ensures.filters ∙ answer.filters c.loop-answer.filters)
+          (answer.text c.loop-answer.number) (rw c.map.ensures at c.in_ok-send.ensures.written);
     }
 
 pub returns-in_default-clause-written : goal.returns-in_default-clause-written
@@ -57,14 +57,14 @@ returns-in_default-clause-written g c =
     c.answer-item.result refl c.loop-answer-test.true c.answer-item.is in
     turn.stops _ _ _ refl (tells_none _ _)
 
-pub returns-in_err-write_answer-clause-written : goal.returns-in_err-write_answer-clause-written
-returns-in_err-write_answer-clause-written g c =
+pub returns-in_err-send-clause-written : goal.returns-in_err-send-clause-written
+returns-in_err-send-clause-written g c =
     let turn =
     turn_at c.loop-answer.invariant.left c.as_slice-answer-items.result.now c.loop-answer.answer-index
     c.answer-item.result refl c.loop-answer-test.true c.answer-item.is in
     let answer = IfOk-at_ok _ c.in-Ok.is turn.known in
-    let p = err_from_is_err_and c.from_residual-in_err-write_answer.result c.from_residual-in_err-write_answer.ensures.1 in
-    rw (p.1, p.2) (turn.stops _ _ _ (answer.text c.loop-answer.number) c.in_err-write_answer.ensures.written)
+    let p = err_from_is_err_and c.from_residual-in_err-send.result c.from_residual-in_err-send.ensures.1 in
+    rw (p.1, p.2) (turn.stops _ _ _ (answer.text c.loop-answer.number) (rw c.map.ensures at c.in_err-send.ensures.written))
 
 pub returns-clause-filters : goal.returns-clause-filters
 returns-clause-filters g c =

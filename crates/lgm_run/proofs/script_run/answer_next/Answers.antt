@@ -3,7 +3,7 @@ use Rattle.std.specs.Prelude.{map}
 use Rattle.std.proofs.lemmas.List.{length-map}
 use Rattle.std.proofs.lemmas.Result.{err_from_is_err_and}
 use Rattle.lgm_script.specs.Output.{told_by, Tells, TellsPart}
-use Rattle.lgm_script.proofs.Telling.{tells_none}
+use Rattle.lgm_script.proofs.WrittenTextLaws.{tells_none}
 use Rattle.lgm_run.specs.inner.Steps.{state_from, text_from}
 use Rattle.lgm_run.proofs.AlikeRequestLaws.{asked_texts}
 use Rattle.lgm_run.proofs.Progress.{first_alone}

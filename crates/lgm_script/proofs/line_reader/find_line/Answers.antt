@@ -1,5 +1,5 @@
 use Rattle.std.proofs.lemmas.List.{take_rest}
-use Rattle.lgm_script.proofs.Splitting.{found_line, found_none}
+use Rattle.lgm_script.proofs.FirstLineFeedLaws.{found_line, found_none}
 use Rattle.lgm_script.proofs.line_reader.find_line.Goals as goal
 
 pub returns-in_err-place-clause-none : goal.returns-in_err-place-clause-none

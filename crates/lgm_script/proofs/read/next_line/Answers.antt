@@ -6,8 +6,8 @@ use Rattle.lgm_script.specs.declared.read.LineFault.{LineFault}
 use Rattle.lgm_script.specs.declared.read.LineFault.TheVariants.{Write}
 use Rattle.lgm_script.specs.declared.output.SendFault.TheVariants.{Write as SendWrite}
 use Rattle.lgm_script.specs.Lines.{HasNoLineFeed}
-use Rattle.lgm_script.proofs.Splitting.{EndsNoLine, first_is_longer, has_longer}
-use Rattle.lgm_script.proofs.Telling.{tells_both, tells_part_behind}
+use Rattle.lgm_script.proofs.FirstLineFeedLaws.{EndsNoLine, first_is_longer, has_longer}
+use Rattle.lgm_script.proofs.WrittenTextLaws.{tells_both, tells_part_behind}
 use Rattle.lgm_script.proofs.read.next_line.Goals as goal
 
 abbrev failed : {T : Type 0} → LineFault → Result T LineFault

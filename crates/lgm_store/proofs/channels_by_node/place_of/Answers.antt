@@ -1,5 +1,5 @@
 use Rattle.std.proofs.Common.{sym}
-use Rattle.lgm_store.proofs.Listing.{place-of, place-found}
+use Rattle.lgm_store.proofs.NodeIdListLaws.{place-of, place-found}
 use Rattle.lgm_store.proofs.channels_by_node.place_of.Goals as goal
 
 pub returns-in-Some-get_index-clause-some : goal.returns-in-Some-get_index-clause-some

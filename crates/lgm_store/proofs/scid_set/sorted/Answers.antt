@@ -1,6 +1,6 @@
 use Rattle.std.proofs.Common.{ap, sym, ◌∙◌}
 use Rattle.lgm_store.specs.inner.ChannelsByNode.{with_id}
-use Rattle.lgm_store.proofs.Collecting.{collected-more}
+use Rattle.lgm_store.proofs.ScidSetLaws.{collected-more}
 use Rattle.lgm_store.proofs.scid_set.sorted.Goals as goal
 
 pub loop-scid-preserved : goal.loop-scid-preserved

@@ -2,12 +2,13 @@
 
 ghost use Rattle.std.specs.Prelude.{◌≡◌};
 
-use super::shown::{Contents, Shown, holds, look, shows};
+use super::shown::{Contents, Shown, look, shows};
+use super::two_channels::{first_channel, has_row, two_channels};
 use super::{channel, scid, update};
 use crate::tests::graph::is_as_made;
 use lgm_graph::Known;
 use lgm_publish::{Eye, Pen, board};
-use lgm_store::Op;
+use lgm_store::{Map, Op};
 use lgm_test_gossip::ops::node;
 use std::alloc::Global;
 use std::process::Abort;
@@ -163,35 +164,57 @@ fn pen_and_two_eyes<R: Wait + RandomSource + Abort>(
     Ok((pen, first, second))
 }
 
+/// What a guard shows of the two channels.
+#[derive(Clone, Copy, Debug, PartialEq, Eq)]
+struct Read {
+    version: u64,
+    /// Whether the map has the row of the first channel.
+    whole: bool,
+    /// Whether a copy of the map has it.
+    copied: bool,
+    edges: usize,
+}
+
+/// What a guard of the eye shows, if there is one, where these are the bytes of the first channel's announcement.
+fn read_row(alloc: Global, eye: Eye, bytes: &[u8]) -> (Eye, Option<Read>) {
+    match eye.enter() {
+        Ok(guard) => {
+            let row = Read {
+                version: guard.version(),
+                whole: has_row(guard.map(), bytes),
+                copied: copy_has_row(alloc, guard.map(), bytes),
+                edges: guard.view().edge_count(),
+            };
+            (guard.leave(), Some(row))
+        }
+        Err(eye) => (eye, None),
+    }
+}
+
+/// Whether a copy of a map has the row of the first channel.
+fn copy_has_row(alloc: Global, map: &Map, bytes: &[u8]) -> bool {
+    match map.copy(alloc) {
+        Ok(copy) => has_row(&copy, bytes),
+        Err(_) => false,
+    }
+}
+
 /// What two eyes are shown, one of which learns what is published.
 #[derive(Clone, Copy, Debug, PartialEq, Eq)]
 struct Told {
-    told: Option<Shown>,
+    told: Option<Read>,
     other: Option<u64>,
-    /// What a copy has of the map that the first eye is shown while a close is appended alone.
-    copied: Option<Contents>,
+    /// What the first eye is shown while a fourth operation is appended alone.
+    next: Option<Read>,
     published: u64,
-}
-
-/// What a copy has of the map that a guard of the eye shows.
-fn copied(alloc: Global, eye: Eye) -> Option<Contents> {
-    let guard = match eye.enter() {
-        Ok(guard) => guard,
-        Err(_eye) => return None,
-    };
-    let stored = match guard.map().copy(alloc) {
-        Ok(map) => Some(holds(&map)),
-        Err(_) => None,
-    };
-    guard.leave();
-    stored
 }
 
 /// Two operations are published, and then one; one eye learns of it.
 fn watch_two<R: Wait + RandomSource + Abort>(
     rt: &R,
     alloc: Global,
-    (one, two, three): (Op, Op, Op),
+    (one, two, three, four): (Op, Op, Op, Op),
+    bytes: &[u8],
 ) -> Result<Told, Fail> {
     let (mut pen, mut eyes) = board(rt, alloc, 2, &Known::all())?;
     let mut first = eyes.pop().expect(rt, "an eye");
@@ -199,16 +222,16 @@ fn watch_two<R: Wait + RandomSource + Abort>(
     publish_two(rt, &mut pen, one, two);
     publish_one(rt, &mut pen, three);
     first.learn(pen.tell());
-    let (first, told) = look(first);
+    let (first, told) = read_row(alloc, first, bytes);
     let (_second, other) = look(second);
-    let _ = pen.append(Op::Close(scid()));
-    let copied = copied(alloc, first);
+    let _ = pen.append(four);
+    let (_first, next) = read_row(alloc, first, bytes);
     let published = pen.published();
     pen.end(rt);
     Ok(Told {
         told,
         other: other.map(|shown| shown.version),
-        copied,
+        next,
         published,
     })
 }
@@ -217,19 +240,16 @@ fn watch_two<R: Wait + RandomSource + Abort>(
 #[test]
 fn an_eye_that_was_told_and_one_that_was_not(rt: HostRuntime) -> Result<(), Fail> {
     let alloc = rt.alloc();
-    let ops = (channel(alloc)?, update(alloc, 0)?, update(alloc, 1)?);
-    let story = watch_two(&rt, alloc, ops)?;
-    let whole = Contents {
-        sat: 100_000,
-        updates: (true, true),
-    };
-    let told = Shown {
+    let bytes = first_channel().bytes(alloc)?;
+    let story = watch_two(&rt, alloc, two_channels(alloc)?, bytes.as_slice())?;
+    let third = Read {
         version: 3,
-        map: whole,
-        edges: 2,
+        whole: true,
+        copied: true,
+        edges: 1,
     };
-    assert_eq!(rt; story.told, Some(told));
-    assert_eq!(rt; story.copied, Some(whole));
+    assert_eq!(rt; story.told, Some(third));
+    assert_eq!(rt; story.next, Some(third));
     assert_eq!(rt; story.published, 3);
     assert!(rt; story.other == Some(0) || story.other == Some(2) || story.other == Some(3));
     Ok(())
@@ -269,8 +289,11 @@ fn told_of_three<R: Wait + RandomSource + Abort>(
 #[test]
 fn a_guard_has_the_edges_of_a_view_of_its_map(rt: HostRuntime) -> Result<(), Fail> {
     let alloc = rt.alloc();
-    let ops = (channel(alloc)?, update(alloc, 0)?, update(alloc, 1)?);
-    assert_eq!(rt; told_of_three(&rt, alloc, ops)?, Some((3, true)));
+    let (one, two, three, _) = two_channels(alloc)?;
+    assert_eq!(rt;
+        told_of_three(&rt, alloc, (one, two, three))?,
+        Some((3, true))
+    );
     Ok(())
 }
 

@@ -13,7 +13,7 @@ pub struct Contents {
     pub updates: (bool, bool),
 }
 
-pub fn holds(map: &Map) -> Contents {
+fn holds(map: &Map) -> Contents {
     let sat = match map.channel(scid()) {
         Some(row) => row.sat,
         None => 0,

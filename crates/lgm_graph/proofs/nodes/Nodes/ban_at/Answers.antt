@@ -1,49 +1,24 @@
-use Rattle.std.proofs.Common.{◌∙◌, sym, [], false}
-use Rattle.std.specs.List.{filter}
-use Rattle.lgm_graph.specs.Edges.{takes_payments}
-use Rattle.lgm_graph.specs.inner.Sound.{is_allowed}
+use Rattle.std.proofs.Common.{◌∙◌, ◌<◌, sym, refl, false, arith, length}
+use Rattle.lgm_graph.specs.Graph.{bare_node}
+use Rattle.lgm_graph.specs.inner.Sound.{is_allowed, looked_at}
 use Rattle.lgm_graph.proofs.Numbers.{number_some}
-use Rattle.lgm_graph.proofs.Numbering.{position_none}
-use Rattle.lgm_graph.proofs.Flags.{map_change, map_absent}
+use Rattle.lgm_graph.proofs.NewNumberLaws.{position_none}
+use Rattle.lgm_graph.proofs.ChangeLaws.{map_change, map_absent}
+use Rattle.lgm_graph.proofs.Places.{node_edit}
 use Rattle.lgm_graph.proofs.nodes.Nodes.ban_at.Goals as goal
 
-pub returns-in-Some-clause-into : goal.returns-in-Some-clause-into
-returns-in-Some-clause-into c = λ before lists.
+pub returns-in-Some-clause-nodes : goal.returns-in-Some-clause-nodes
+returns-in-Some-clause-nodes c = λ before nodes.
     let place = number_some c.args.self.now.points.keys c.args.node.now c.in-Some.number (sym c.get_index_of.ensures.index ∙ c.in-Some.is) in
     let there = rw (← place.0) at place.1 in
-    rw (c.drop_banned_at.ensures.edges, lists, ← place.0)
-    (map_change before (λ q ls. filter (is_allowed c.args.self.now.points.keys c.args.map.now.banned) ls)
-    c.args.self.now.points.keys c.args.node.now [] c.len.ensures.unique there)
+    let within : c.in-Some.number < length c.args.self.now.nodes.items = omega (arith, place.1, c.requires) in
+    let change = looked_at c.args.known.now c.args.map.now.nodes (is_allowed c.args.self.now.points.keys c.args.map.now.banned) in
+    node_edit c.args.self.now.nodes.items c.in-Some.number c.index_mut.result.now c.ban.new.self within
+    c.index_mut.ensures.value (change c.args.node.now) (c.ban.ensures ∙ rw c.takes_payments.ensures refl)
+    ∙ rw (nodes, ← place.0) (map_change before change c.args.self.now.points.keys c.args.node.now (bare_node false) c.len.ensures.unique there)
 
-pub returns-in-Some-clause-out : goal.returns-in-Some-clause-out
-returns-in-Some-clause-out c = λ before lists.
-    let place = number_some c.args.self.now.points.keys c.args.node.now c.in-Some.number (sym c.get_index_of.ensures.index ∙ c.in-Some.is) in
-    let there = rw (← place.0) at place.1 in
-    rw (c.drop_banned_at-in-Some.ensures.edges, lists, ← place.0)
-    (map_change before (λ q ls. filter (is_allowed c.args.self.now.points.keys c.args.map.now.banned) ls)
-    c.args.self.now.points.keys c.args.node.now [] c.len.ensures.unique there)
-
-pub returns-in-Some-clause-accepts_payments : goal.returns-in-Some-clause-accepts_payments
-returns-in-Some-clause-accepts_payments c = λ before flags.
-    let place = number_some c.args.self.now.points.keys c.args.node.now c.in-Some.number (sym c.get_index_of.ensures.index ∙ c.in-Some.is) in
-    let there = rw (← place.0) at place.1 in
-    rw (flags, ← place.0, c.takes_payments.ensures)
-    (map_change before (λ q b. takes_payments c.args.known.now c.args.map.now.nodes q)
-    c.args.self.now.points.keys c.args.node.now false c.len.ensures.unique there)
-
-pub returns-in_default-clause-into : goal.returns-in_default-clause-into
-returns-in_default-clause-into c = λ before lists.
-    lists ∙ map_absent before (λ q ls. filter (is_allowed c.args.self.now.points.keys c.args.map.now.banned)
-    ls) c.args.self.now.points.keys c.args.node.now
-    (position_none c.args.self.now.points.keys c.args.node.now (sym c.get_index_of.ensures.index ∙ c.in_default.is))
-
-pub returns-in_default-clause-out : goal.returns-in_default-clause-out
-returns-in_default-clause-out c = λ before lists.
-    lists ∙ map_absent before (λ q ls. filter (is_allowed c.args.self.now.points.keys c.args.map.now.banned)
-    ls) c.args.self.now.points.keys c.args.node.now
-    (position_none c.args.self.now.points.keys c.args.node.now (sym c.get_index_of.ensures.index ∙ c.in_default.is))
-
-pub returns-in_default-clause-accepts_payments : goal.returns-in_default-clause-accepts_payments
-returns-in_default-clause-accepts_payments c = λ before flags.
-    flags ∙ map_absent before (λ q b. takes_payments c.args.known.now c.args.map.now.nodes q) c.args.self.now.points.keys c.args.node.now
+pub returns-in_default-clause-nodes : goal.returns-in_default-clause-nodes
+returns-in_default-clause-nodes c = λ before nodes.
+    nodes ∙ map_absent before (looked_at c.args.known.now c.args.map.now.nodes (is_allowed c.args.self.now.points.keys c.args.map.now.banned))
+    c.args.self.now.points.keys c.args.node.now
     (position_none c.args.self.now.points.keys c.args.node.now (sym c.get_index_of.ensures.index ∙ c.in_default.is))

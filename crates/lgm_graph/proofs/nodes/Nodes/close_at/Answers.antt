@@ -1,17 +1,15 @@
-use Rattle.std.proofs.Common.{[]}
-use Rattle.std.specs.List.{filter}
-use Rattle.lgm_graph.specs.inner.Sound.{is_not_of}
-use Rattle.lgm_graph.proofs.Flags.{map_change}
+use Rattle.std.proofs.Common.{◌∙◌, ◌<◌, refl, false, arith, length}
+use Rattle.lgm_graph.specs.Graph.{bare_node}
+use Rattle.lgm_graph.specs.inner.Sound.{is_not_of, looked_at}
+use Rattle.lgm_graph.proofs.ChangeLaws.{map_change}
+use Rattle.lgm_graph.proofs.Places.{node_edit}
 use Rattle.lgm_graph.proofs.nodes.Nodes.close_at.Goals as goal
 
-pub returns-clause-into : goal.returns-clause-into
-returns-clause-into c = λ before lists.
-    rw (c.refresh_features.ensures.into, c.drop_at.ensures.edges, lists, c.number_of-number.ensures.number, c.refresh_features.ensures.points)
-    (map_change before (λ q ls. filter (is_not_of c.args.scid) ls) c.args.self.now.points.keys c.args.node.now
-    [] c.len.ensures.unique c.requires.numbered)
-
-pub returns-clause-out : goal.returns-clause-out
-returns-clause-out c = λ before lists.
-    rw (c.refresh_features.ensures.out, c.drop_at-2.ensures.edges, lists, c.number_of-number.ensures.number, c.refresh_features.ensures.points)
-    (map_change before (λ q ls. filter (is_not_of c.args.scid) ls) c.args.self.now.points.keys c.args.node.now
-    [] c.len.ensures.unique c.requires.numbered)
+pub returns-clause-nodes : goal.returns-clause-nodes
+returns-clause-nodes c = λ before nodes.
+    let within : c.number_of-number.result < length c.args.self.now.nodes.items = omega (arith, c.number_of-number.ensures.less, c.requires.long) in
+    let change = looked_at c.args.known.now c.args.map.now.nodes (is_not_of c.args.scid) in
+    node_edit c.args.self.now.nodes.items c.number_of-number.result c.index_mut.result.now c.close.new.self within
+    c.index_mut.ensures.value (change c.args.node.now) (c.close.ensures ∙ rw c.takes_payments.ensures refl)
+    ∙ rw (nodes, c.number_of-number.ensures.number)
+    (map_change before change c.args.self.now.points.keys c.args.node.now (bare_node false) c.len.ensures.unique c.requires.numbered)

@@ -1,5 +1,5 @@
 use Rattle.std.proofs.Common.{◌∙◌, sym}
-use Rattle.lgm_graph.proofs.Numbering.{number_at}
+use Rattle.lgm_graph.proofs.NewNumberLaws.{number_at}
 use Rattle.lgm_graph.proofs.nodes.Nodes.has_number.Goals as goal
 
 pub returns-in-Some-clause-number : goal.returns-in-Some-clause-number

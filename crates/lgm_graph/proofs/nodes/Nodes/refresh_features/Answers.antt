@@ -1,19 +1,23 @@
-use Rattle.std.proofs.Common.{◌∙◌, sym, false}
-use Rattle.lgm_graph.specs.Edges.{takes_payments}
-use Rattle.lgm_graph.proofs.Flags.{map_change, map_absent}
+use Rattle.std.proofs.Common.{◌∙◌, ◌<◌, sym, refl, false, arith, length}
+use Rattle.lgm_graph.specs.Graph.{bare_node}
+use Rattle.lgm_graph.specs.inner.Sound.{checked_at}
+use Rattle.lgm_graph.proofs.ChangeLaws.{map_change, map_absent}
 use Rattle.lgm_graph.proofs.Numbers.{number_some}
-use Rattle.lgm_graph.proofs.Numbering.{position_none}
+use Rattle.lgm_graph.proofs.NewNumberLaws.{position_none}
+use Rattle.lgm_graph.proofs.Places.{node_edit}
 use Rattle.lgm_graph.proofs.nodes.Nodes.refresh_features.Goals as goal
 
-pub returns-in-Some-clause-accepts_payments : goal.returns-in-Some-clause-accepts_payments
-returns-in-Some-clause-accepts_payments c = λ before flags.
+pub returns-in-Some-clause-nodes : goal.returns-in-Some-clause-nodes
+returns-in-Some-clause-nodes c = λ before nodes.
     let place = number_some c.args.self.now.points.keys c.args.node.now c.in-Some.number (sym c.get_index_of.ensures.index ∙ c.in-Some.is) in
     let there = rw (← place.0) at place.1 in
-    rw (flags, ← place.0, c.takes_payments.ensures)
-    (map_change before (λ q b. takes_payments c.args.known.now c.args.map.now.nodes q)
-    c.args.self.now.points.keys c.args.node.now false c.len.ensures.unique there)
+    let change = checked_at c.args.known.now c.args.map.now.nodes in
+    let within : c.in-Some.number < length c.args.self.now.nodes.items = omega (arith, place.1, c.requires) in
+    node_edit c.args.self.now.nodes.items c.in-Some.number c.index_mut.result.now _ within
+    c.index_mut.ensures.value (change c.args.node.now) (rw c.takes_payments.ensures refl)
+    ∙ rw (nodes, ← place.0) (map_change before change c.args.self.now.points.keys c.args.node.now (bare_node false) c.len.ensures.unique there)
 
-pub returns-in_default-clause-accepts_payments : goal.returns-in_default-clause-accepts_payments
-returns-in_default-clause-accepts_payments c = λ before flags.
-    flags ∙ map_absent before (λ q b. takes_payments c.args.known.now c.args.map.now.nodes q) c.args.self.now.points.keys c.args.node.now
+pub returns-in_default-clause-nodes : goal.returns-in_default-clause-nodes
+returns-in_default-clause-nodes c = λ before nodes.
+    nodes ∙ map_absent before (checked_at c.args.known.now c.args.map.now.nodes) c.args.self.now.points.keys c.args.node.now
     (position_none c.args.self.now.points.keys c.args.node.now (sym c.get_index_of.ensures.index ∙ c.in_default.is))

@@ -1,12 +1,12 @@
-use Rattle.std.proofs.Common.{◌≡◌, ◌<◌, ◌^◌, ◌∙◌, List, [], get_or, length, take, map, sym, ap, subst, arith}
+use Rattle.std.proofs.Common.{◌≡◌, ◌<◌, ◌^◌, ◌∙◌, List, length, take, map, sym, ap, subst, arith}
 use Rattle.std.specs.List.{AllByRecursion}
 use Rattle.std.specs.List.Sorted.{IsPermutation}
 use Rattle.lgm_graph.specs.declared.edge.Edge.{Edge}
 use Rattle.lgm_graph.specs.Overlay.{overlaid_edges}
-use Rattle.lgm_graph.specs.Graph.{IsJoined, point_edges}
-use Rattle.lgm_graph.specs.inner.Overlaying.{graph_over, laid_list}
-use Rattle.lgm_graph.specs.inner.Sound.{edges_in, IsSound}
-use Rattle.lgm_graph.proofs.Covering.{is_sound, is_once}
+use Rattle.lgm_graph.specs.Graph.{IsJoined, node_at, point_edges}
+use Rattle.lgm_graph.specs.inner.Overlaying.{edges_in, graph_over, laid_list}
+use Rattle.lgm_graph.specs.inner.Sound.{IsSound}
+use Rattle.lgm_graph.proofs.OverlayViewLaws.{is_sound, is_once}
 use Rattle.lgm_graph.proofs.overlay_view.OverlayView.of.Goals as goal
 
 joined : (c : goal.After-into_places) → AllByRecursion (IsJoined c.in_ok-points.points) c.args.overlay.now.extra
@@ -14,10 +14,10 @@ joined c = subst (AllByRecursion (IsJoined c.in_ok-points.points)) c.extra.ensur
 
 -- the lists of the nodes of which something was said
 out : (c : goal.After-into_places) → map edges_in c.in_ok-out.out.items
-    ≡ map (λ said. laid_list c.touch_targets.new.self (get_or c.args.view.now.out said.node []) said.leaving)
+    ≡ map (λ said. laid_list c.touch_targets.new.self (node_at c.args.view.now said.node).out said.leaving)
     (take (length c.say_overlay.new.self.nodes) c.touch_targets.new.self.nodes)
 out c = c.in_ok-out.ensures
-    ∙ ap (λ n. map (λ said. laid_list c.touch_targets.new.self (get_or c.args.view.now.out said.node []) said.leaving)
+    ∙ ap (λ n. map (λ said. laid_list c.touch_targets.new.self (node_at c.args.view.now said.node).out said.leaving)
     (take n c.touch_targets.new.self.nodes)) (ap length c.as_slice-count.ensures.nodes)
 
 pub invariant_of-result : goal.invariant_of-result

@@ -1,8 +1,7 @@
 use Rattle.std.proofs.Common.{subst, map}
 use Rattle.lgm_graph.specs.Graph.{AreListed}
-use Rattle.lgm_graph.specs.inner.Overlaying.{graph_over}
-use Rattle.lgm_graph.specs.inner.Sound.{edges_in}
-use Rattle.lgm_graph.proofs.Listing.{are_listed}
+use Rattle.lgm_graph.specs.inner.Overlaying.{edges_in, graph_over}
+use Rattle.lgm_graph.proofs.NodeListLaws.{are_listed}
 use Rattle.lgm_graph.proofs.overlay_view.OverlayViewRoutingGraph.nodes.Goals as goal
 
 pub returns-clause-listed : goal.returns-clause-listed

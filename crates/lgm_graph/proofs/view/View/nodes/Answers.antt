@@ -1,7 +1,7 @@
 use Rattle.std.proofs.Common.{subst}
 use Rattle.lgm_graph.specs.Graph.{AreListed}
 use Rattle.lgm_graph.specs.inner.Sound.{graph_in}
-use Rattle.lgm_graph.proofs.Listing.{are_listed}
+use Rattle.lgm_graph.proofs.NodeListLaws.{are_listed}
 use Rattle.lgm_graph.proofs.view.View.nodes.Goals as goal
 
 pub returns-clause-listed : goal.returns-clause-listed

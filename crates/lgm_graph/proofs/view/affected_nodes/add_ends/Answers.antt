@@ -3,7 +3,7 @@ use Rattle.std.proofs.lemmas.List.{take_all}
 use Rattle.std.specs.List.{filter}
 use Rattle.indexmap.specs.IndexSet.{insert_key}
 use Rattle.lgm_store.specs.Rows.{is_point, ends_at, channel_of}
-use Rattle.lgm_graph.proofs.Parting.{with_ends, kept_more, ends_next, ends_all, ids_stored, long_ids}
+use Rattle.lgm_graph.proofs.BanLaws.{with_ends, kept_more, ends_next, ends_all, ids_stored, long_ids}
 use Rattle.lgm_graph.proofs.view.affected_nodes.add_ends.Goals as goal
 use Rattle.lgm_graph.proofs.view.affected_nodes.add_ends.Goals.{in-Some+in_ok-insert+in_ok-insert-2, in_default}
 

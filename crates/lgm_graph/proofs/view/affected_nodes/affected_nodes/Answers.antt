@@ -1,4 +1,4 @@
-use Rattle.lgm_graph.proofs.Parting.{parts_all}
+use Rattle.lgm_graph.proofs.BanLaws.{parts_all}
 use Rattle.lgm_graph.proofs.view.affected_nodes.affected_nodes.Goals as goal
 
 pub returns : goal.returns

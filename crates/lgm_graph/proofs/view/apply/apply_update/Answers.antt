@@ -2,11 +2,11 @@ use Rattle.std.proofs.Common.{rules, refl, ◌∙◌, sym, ap, arith, not, lengt
 use Rattle.std.specs.Option.{option_map}
 use Rattle.lgm_store.specs.Rows.{channel_of}
 use Rattle.lgm_store.specs.History.{absorbed}
-use Rattle.lgm_graph.specs.Edges.{end_of, carrying, edge_on}
+use Rattle.lgm_graph.specs.Edges.{end_of, carrying, edge_on, takes_payments}
 use Rattle.lgm_graph.specs.Graph.{number_of, numbered_as}
 use Rattle.lgm_graph.proofs.Numbers.{ends_numbered, in_both}
-use Rattle.lgm_graph.proofs.Making.{into_long, out_long, same_points, same_into, same_out, same_shows}
-use Rattle.lgm_graph.proofs.Updating.{node_updated, into_cut, out_cut}
+use Rattle.lgm_graph.proofs.PushedEdgeLaws.{nodes_long, same_points, same_nodes}
+use Rattle.lgm_graph.proofs.UpdateLaws.{node_updated, into_cut, out_cut}
 use Rattle.lgm_graph.proofs.view.apply.apply_update.Goals as goal
 
 pub number_of-from-requires : goal.number_of-from-requires
@@ -31,31 +31,23 @@ edge_on-edge-requires-clause-to c =
 
 pub reserve_edges-requires-clause-from : goal.reserve_edges-requires-clause-from
 reserve_edges-requires-clause-from c =
-    let long = out_long (carrying c.args.map.now) c.args.nodes.now c.requires.beside.shows in
+    let long = nodes_long (takes_payments c.args.known.now c.args.map.now.nodes) (carrying c.args.map.now) c.args.nodes.now c.requires.beside.shows in
     omega (arith, c.number_of-from.ensures.less, long)
 
 pub reserve_edges-requires-clause-to : goal.reserve_edges-requires-clause-to
 reserve_edges-requires-clause-to c =
-    let long = into_long (carrying c.args.map.now) c.args.nodes.now c.requires.beside.shows in
+    let long = nodes_long (takes_payments c.args.known.now c.args.map.now.nodes) (carrying c.args.map.now) c.args.nodes.now c.requires.beside.shows in
     omega (arith, c.number_of-to.ensures.less, long)
 
 pub put_edge-requires-clause-from : goal.put_edge-requires-clause-from
 put_edge-requires-clause-from c =
-    let points = ap length (same_points c.args.nodes.now c.reserve_edges.new.self c.reserve_edges.ensures.same) in
-    let long =
-    out_long (carrying c.args.map.now) c.reserve_edges.new.self
-    (same_shows c.args.nodes.now c.reserve_edges.new.self c.reserve_edges.ensures.same
-    (carrying c.args.map.now) c.requires.beside.shows) in
-    omega (arith, c.number_of-from.ensures.less, long, points)
+    let long = nodes_long (takes_payments c.args.known.now c.args.map.now.nodes) (carrying c.args.map.now) c.args.nodes.now c.requires.beside.shows in
+    omega (arith, c.number_of-from.ensures.less, long, c.reserve_edges.ensures.long)
 
 pub put_edge-requires-clause-to : goal.put_edge-requires-clause-to
 put_edge-requires-clause-to c =
-    let points = ap length (same_points c.args.nodes.now c.reserve_edges.new.self c.reserve_edges.ensures.same) in
-    let long =
-    into_long (carrying c.args.map.now) c.reserve_edges.new.self
-    (same_shows c.args.nodes.now c.reserve_edges.new.self c.reserve_edges.ensures.same
-    (carrying c.args.map.now) c.requires.beside.shows) in
-    omega (arith, c.number_of-to.ensures.less, long, points)
+    let long = nodes_long (takes_payments c.args.known.now c.args.map.now.nodes) (carrying c.args.map.now) c.args.nodes.now c.requires.beside.shows in
+    omega (arith, c.number_of-to.ensures.less, long, c.reserve_edges.ensures.long)
 
 pub put_edge-requires-clause-cut_into : goal.put_edge-requires-clause-cut_into
 put_edge-requires-clause-cut_into c =
@@ -63,8 +55,8 @@ put_edge-requires-clause-cut_into c =
     let place =
     c.number_of-to.ensures.number ∙ ap (number_of c.args.nodes.now.points.keys) (c.node-to.ensures
     ∙ ap (λ b. end_of c.in-Some.channel (not b)) c.is_second-second.ensures) in
-    rw (same_into c.args.nodes.now c.reserve_edges.new.self c.reserve_edges.ensures.same, place, c.scid-scid.ensures, c.is_second-second.ensures)
-    (into_cut c.args.known.now c.args.map.now c.args.row.now c.in-Some.channel stored c.rows_are_lawful.ensures.ascend _ _ _ _ c.requires.beside)
+    rw (same_nodes c.args.nodes.now c.reserve_edges.new.self c.reserve_edges.ensures.same, place, c.scid-scid.ensures, c.is_second-second.ensures)
+    (into_cut c.args.known.now c.args.map.now c.args.row.now c.in-Some.channel stored c.rows_are_lawful.ensures.ascend _ _ c.requires.beside)
 
 pub put_edge-requires-clause-cut_out : goal.put_edge-requires-clause-cut_out
 put_edge-requires-clause-cut_out c =
@@ -72,8 +64,8 @@ put_edge-requires-clause-cut_out c =
     let place =
     c.number_of-from.ensures.number ∙ ap (number_of c.args.nodes.now.points.keys) (c.node-from.ensures
     ∙ ap (end_of c.in-Some.channel) c.is_second-second.ensures) in
-    rw (same_out c.args.nodes.now c.reserve_edges.new.self c.reserve_edges.ensures.same, place, c.scid-scid.ensures, c.is_second-second.ensures)
-    (out_cut c.args.known.now c.args.map.now c.args.row.now c.in-Some.channel stored c.rows_are_lawful.ensures.ascend _ _ _ _ c.requires.beside)
+    rw (same_nodes c.args.nodes.now c.reserve_edges.new.self c.reserve_edges.ensures.same, place, c.scid-scid.ensures, c.is_second-second.ensures)
+    (out_cut c.args.known.now c.args.map.now c.args.row.now c.in-Some.channel stored c.rows_are_lawful.ensures.ascend _ _ c.requires.beside)
 
 pub returns-in_default : goal.returns-in_default
 returns-in_default c =
@@ -94,7 +86,7 @@ returns c = record {
       (c.number_of-to.ensures.number ∙ ap (number_of c.args.nodes.now.points.keys) c.node-to.ensures)
       (c.edge_on-edge.ensures ∙ ap (λ row. option_map (λ e. numbered_as e c.number_of-from.result c.number_of-to.result)
       (edge_on c.in-Some.channel row)) c.row.ensures)
-      c.put_edge.ensures.points c.put_edge.ensures.accepts_payments c.put_edge.ensures.into c.put_edge.ensures.out;
+      c.put_edge.ensures.points c.put_edge.ensures.nodes;
   few =
       let points =
       ap length (c.put_edge.ensures.points

@@ -1,7 +1,7 @@
 use Rattle.std.proofs.Common.{◌∙◌, ap, sym}
 use Rattle.lgm_graph.specs.Graph.{IsNumbered, number_of}
 use Rattle.lgm_graph.specs.inner.Walk.{KeepsNumbers}
-use Rattle.lgm_graph.proofs.Writing.{edges_of_more, channel_written}
+use Rattle.lgm_graph.proofs.WrittenEdgeLaws.{edges_of_more, channel_written}
 use Rattle.lgm_graph.proofs.view.build.add_channel.Goals as goal
 
 pub returns-clause-edges : goal.returns-clause-edges

@@ -1,4 +1,5 @@
-use Rattle.std.proofs.Common.{◌≡◌, List, take}
+use Rattle.std.proofs.Common.{◌≡◌, Bool, List, [], length, take}
+use Rattle.lgm_wire.specs.declared.point.Point.{Point}
 use Rattle.lgm_graph.specs.Edges.{PointEdge}
 use Rattle.lgm_graph.specs.inner.Sound.{ShowsIn}
 use Rattle.lgm_graph.specs.inner.Walk.{AreEdgesOf}
@@ -7,6 +8,7 @@ use Rattle.lgm_graph.proofs.view.build.put_edges.Given as goal
 abbrev pub invariant-loop-edge : goal.invariant-loop-edge
 invariant-loop-edge l = record {
   points : l.nodes.points.keys ≡ l.fn.nodes.points.keys;
-  accepts_payments : l.nodes.accepts_payments.items ≡ l.fn.nodes.accepts_payments.items;
-  shows : (point_edges : List PointEdge) → AreEdgesOf point_edges l.fn.nodes.points.keys l.edges → ShowsIn (take l.edge-index point_edges) l.nodes;
+  long : length l.nodes.nodes.items ≡ length l.nodes.points.keys;
+  shows : (accepts : Point → Bool) → ShowsIn accepts [] l.fn.nodes
+      → (point_edges : List PointEdge) → AreEdgesOf point_edges l.fn.nodes.points.keys l.edges → ShowsIn accepts (take l.edge-index point_edges) l.nodes;
 }

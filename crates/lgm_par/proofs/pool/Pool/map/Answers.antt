@@ -5,7 +5,7 @@ use Rattle.std.proofs.lemmas.Iterator.Adapters.{YieldsList-from_vec}
 use Rattle.std.proofs.lemmas.Iterator.Consumers.{YieldsList-turn, YieldsList-end}
 use Rattle.lgm_par.specs.inner.Chunks.{piece_of}
 use Rattle.lgm_par.specs.Pieces.{GivesAll}
-use Rattle.lgm_par.proofs.Cutting.{none_given, piece_given, all_given}
+use Rattle.lgm_par.proofs.PieceLaws.{none_given, piece_given, all_given}
 use Rattle.lgm_par.proofs.pool.Pool.map.Goals as goal
 
 pub loop-part-init : goal.loop-part-init

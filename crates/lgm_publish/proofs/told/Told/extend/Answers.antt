@@ -3,7 +3,7 @@ use mathlib.Core.List.{IsPrefix}
 use Rattle.lgm_publish.specs.Lists.{joined}
 use Rattle.lgm_publish.specs.Handles.{History}
 use Rattle.lgm_publish.specs.inner.Book.{head_of}
-use Rattle.lgm_publish.proofs.Extending.{extends_moves}
+use Rattle.lgm_publish.proofs.HistoryLaws.{extends_moves}
 use Rattle.lgm_publish.proofs.told.Told.extend.Goals as goal
 
 pub compare_exchange-found-requires : goal.compare_exchange-found-requires

@@ -1,7 +1,7 @@
 use Rattle.std.proofs.Common.{refl, ap, sym, ◌∙◌}
 use Rattle.std.specs.Prelude.{◌==◌}
 use Rattle.lgm_store.specs.Rows.{is_point}
-use Rattle.lgm_query.proofs.Touching.{touched_channel, touched_node}
+use Rattle.lgm_query.proofs.TouchedKeyLaws.{touched_channel, touched_node}
 use Rattle.lgm_query.proofs.touched_keys.TouchedKeys.touch.Goals as goal
 
 pub returns-in_ok-insert-in-Channel-clause-ok : goal.returns-in_ok-insert-in-Channel-clause-ok

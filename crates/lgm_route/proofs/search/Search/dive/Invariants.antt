@@ -1,5 +1,5 @@
 use Rattle.std.proofs.Common.{◌<◌, length}
-use Rattle.lgm_route.specs.inner.State.{Extends}
+use Rattle.lgm_route.specs.inner.SearchState.{Extends}
 use Rattle.lgm_route.proofs.search.Search.dive.Given as goal
 
 abbrev pub invariant-loop-step : goal.invariant-loop-step

@@ -1,6 +1,6 @@
 use Rattle.std.proofs.Common.{◌<◌, ℕ}
 use Rattle.lgm_route.specs.inner.Searching.{label_at, first_of}
-use Rattle.lgm_route.specs.inner.State.{Extends, IsRelaxedOn}
+use Rattle.lgm_route.specs.inner.SearchState.{Extends, IsRelaxedOn}
 use Rattle.lgm_route.proofs.search.Search.merge.Given as goal
 
 abbrev pub invariant-loop-new : goal.invariant-loop-new

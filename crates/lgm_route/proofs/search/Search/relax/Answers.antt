@@ -2,7 +2,7 @@ use Rattle.std.proofs.Common.{◌≡◌, ◌<◌, ◌∙◌, ℕ, length, ap, su
 use Rattle.std.proofs.lemmas.List.{get_or_default}
 use Rattle.lgm_graph.specs.Graph.{edges_into}
 use Rattle.lgm_route.specs.inner.Searching.{label_at, edge_at, no_edge}
-use Rattle.lgm_route.specs.inner.State.{IsRelaxedOn}
+use Rattle.lgm_route.specs.inner.SearchState.{IsRelaxedOn}
 use Rattle.lgm_route.proofs.Searches.{extends-trans, bound_falls, passed_more, left_all}
 use Rattle.lgm_route.proofs.search.Search.relax.Goals as goal
 

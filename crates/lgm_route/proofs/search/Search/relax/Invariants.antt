@@ -1,6 +1,6 @@
 use Rattle.std.proofs.Common.{◌<◌, ℕ}
 use Rattle.lgm_route.specs.inner.Searching.{edge_at}
-use Rattle.lgm_route.specs.inner.State.{Extends, IsRelaxedOn}
+use Rattle.lgm_route.specs.inner.SearchState.{Extends, IsRelaxedOn}
 use Rattle.lgm_route.proofs.search.Search.relax.Given as goal
 
 abbrev pub invariant-loop-at : goal.invariant-loop-at

@@ -2,7 +2,7 @@ use Rattle.std.proofs.Common.{◌≡◌, ◌+◌, ◌∙◌, ap, sym, subst, ari
 use Rattle.std.proofs.lemmas.List.{get_or_default}
 use Rattle.lgm_graph.specs.Graph.{edges_into}
 use Rattle.lgm_route.specs.inner.Searching.{edge_at, no_edge}
-use Rattle.lgm_route.specs.inner.State.{bound_in, IsRelaxationAt}
+use Rattle.lgm_route.specs.inner.SearchState.{bound_in, IsRelaxationAt}
 use Rattle.lgm_route.proofs.RelaxationLaws.{AreLeadsTo, leads_next, leads_all}
 use Rattle.lgm_route.proofs.search.Search.relaxations.Goals as goal
 

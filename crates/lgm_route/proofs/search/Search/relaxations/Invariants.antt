@@ -1,4 +1,4 @@
-use Rattle.lgm_route.specs.inner.State.{bound_in}
+use Rattle.lgm_route.specs.inner.SearchState.{bound_in}
 use Rattle.lgm_route.proofs.RelaxationLaws.{AreLeadsTo}
 use Rattle.lgm_route.proofs.search.Search.relaxations.Given as goal
 

@@ -1,5 +1,5 @@
 use Rattle.std.proofs.Common.{◌-◌}
-use Rattle.lgm_route.specs.inner.State.{Extends}
+use Rattle.lgm_route.specs.inner.SearchState.{Extends}
 use Rattle.lgm_route.proofs.search.Search.settle_early.Given as goal
 
 abbrev pub invariant-loop-settled : goal.invariant-loop-settled

@@ -1,9 +1,9 @@
 use Rattle.std.proofs.Common.{ℕ, get_or, IfOk, Result, Vec, Global, sym, subst, arith}
 use Rattle.std.specs.declared.alloc.AllocError.{AllocError}
 use Rattle.std.proofs.lemmas.Slice.Zip.{AllZip-long}
-use Rattle.lgm_par.proofs.Zipping.{zip_at}
+use Rattle.lgm_par.proofs.PlacewiseLaws.{zip_at}
 use Rattle.lgm_route.specs.declared.label.Label.{Label}
-use Rattle.lgm_route.specs.inner.State.{AreRelaxationsAt}
+use Rattle.lgm_route.specs.inner.SearchState.{AreRelaxationsAt}
 use Rattle.lgm_route.proofs.Searches.{leads_at_later}
 use Rattle.lgm_route.proofs.search.Search.settle_in_chunks.Goals as goal
 

@@ -1,4 +1,4 @@
-use Rattle.lgm_route.specs.inner.State.{Extends}
+use Rattle.lgm_route.specs.inner.SearchState.{Extends}
 use Rattle.lgm_route.proofs.search.Search.settle_in_turn.Given as goal
 
 abbrev pub invariant-loop-i : goal.invariant-loop-i

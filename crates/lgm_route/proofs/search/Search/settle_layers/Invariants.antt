@@ -1,4 +1,4 @@
-use Rattle.lgm_route.specs.inner.State.{Extends}
+use Rattle.lgm_route.specs.inner.SearchState.{Extends}
 use Rattle.lgm_route.proofs.search.Search.settle_layers.Given as goal
 
 abbrev pub invariant-loop-layer : goal.invariant-loop-layer

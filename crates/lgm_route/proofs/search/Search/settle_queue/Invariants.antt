@@ -1,4 +1,4 @@
-use Rattle.lgm_route.specs.inner.State.{Extends}
+use Rattle.lgm_route.specs.inner.SearchState.{Extends}
 use Rattle.lgm_route.proofs.search.Search.settle_queue.Given as goal
 
 abbrev pub invariant-loop-turn : goal.invariant-loop-turn

@@ -1,5 +1,5 @@
 use Rattle.std.proofs.Common.{◌<◌, ℕ}
-use Rattle.lgm_route.specs.inner.State.{Extends, IsMarkedAt}
+use Rattle.lgm_route.specs.inner.SearchState.{Extends, IsMarkedAt}
 use Rattle.lgm_route.proofs.search.Search.sweep.Given as goal
 
 abbrev pub invariant-loop-i : goal.invariant-loop-i

@@ -1,6 +1,6 @@
 use Rattle.std.specs.Option.{option_map}
 use Rattle.std.proofs.lemmas.Result.{err_from_is_err_and}
-use Rattle.lgm_script.proofs.Telling.{tells_none}
+use Rattle.lgm_script.proofs.WrittenTextLaws.{tells_none}
 use Rattle.lgm_run.proofs.MapLaws.{due_leads}
 use Rattle.lgm_run.proofs.maps.Maps.answer_questions.Goals as goal
 

@@ -1,4 +1,4 @@
-use Rattle.lgm_script.proofs.Telling.{tells_some}
+use Rattle.lgm_script.proofs.WrittenTextLaws.{tells_some}
 use Rattle.lgm_script.proofs.output.Output.flush.Goals as goal
 
 pub returns-in-Err-clause-written : goal.returns-in-Err-clause-written

@@ -1,5 +1,5 @@
 use Rattle.std.proofs.lemmas.Result.{err_from_is_err_and}
-use Rattle.lgm_script.proofs.Telling.{tells_same}
+use Rattle.lgm_script.proofs.WrittenTextLaws.{tells_same}
 use Rattle.lgm_script.proofs.output.Output.send.Goals as goal
 
 pub returns-in_err-append_line : goal.returns-in_err-append_line

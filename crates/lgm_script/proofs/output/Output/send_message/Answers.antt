@@ -1,5 +1,5 @@
 use Rattle.std.proofs.lemmas.Result.{err_from_is_err_and}
-use Rattle.lgm_script.proofs.Telling.{tells_same}
+use Rattle.lgm_script.proofs.WrittenTextLaws.{tells_same}
 use Rattle.lgm_script.proofs.output.Output.send_message.Goals as goal
 
 pub returns-in_err-append_message : goal.returns-in_err-append_message

@@ -7,7 +7,7 @@ use Rattle.lgm_wire.specs.declared.point.Point.{Point}
 use Rattle.lgm_store.specs.Rows.{put, by_point}
 use Rattle.lgm_store.specs.History.{with_points}
 use Rattle.lgm_store.proofs.Points.{is_at-point, is_point-self}
-use Rattle.lgm_store.proofs.Listing.{remove_key-insert}
+use Rattle.lgm_store.proofs.NodeIdListLaws.{remove_key-insert}
 use Rattle.lgm_store.proofs.BannedPoints.{keys-insert}
 use Rattle.lgm_store.proofs.banned.Banned.+insert.Goals as goal
 

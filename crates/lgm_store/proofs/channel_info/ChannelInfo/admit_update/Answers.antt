@@ -2,7 +2,7 @@ use Rattle.std.proofs.Common.{ap, ◌∙◌}
 use Rattle.lgm_store.specs.ChannelInfo.{update_in}
 use Rattle.lgm_store.specs.Rows.{is_second}
 use Rattle.lgm_store.specs.inner.Decided.{update_op}
-use Rattle.lgm_store.proofs.Deciding.{update-decided}
+use Rattle.lgm_store.proofs.DecisionLaws.{update-decided}
 use Rattle.lgm_store.proofs.channel_info.ChannelInfo.admit_update.Goals as goal
 
 pub returns : goal.returns

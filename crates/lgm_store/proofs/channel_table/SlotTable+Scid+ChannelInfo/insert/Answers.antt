@@ -1,7 +1,7 @@
 use Rattle.std.proofs.Common.{refl}
 use Rattle.lgm_store.specs.inner.ChannelTable.{id_in}
 use Rattle.lgm_store.proofs.KeyOrder.{by_id}
-use Rattle.lgm_store.proofs.Numbering.{IsPut, put-added, found-none, found-held}
+use Rattle.lgm_store.proofs.SlotNumberLaws.{IsPut, put-added, found-none, found-held}
 use Rattle.lgm_store.proofs.channel_table.SlotTable+Scid+ChannelInfo.insert.Goals as goal
 use Rattle.lgm_store.proofs.channel_table.SlotTable+Scid+ChannelInfo.insert.Goals.{In_default}
 

@@ -9,8 +9,8 @@ use Rattle.lgm_store.specs.inner.ChannelTable.{id_in}
 use Rattle.lgm_store.specs.Keys.{id_of}
 use Rattle.lgm_store.proofs.KeyOrder.{by_id}
 use Rattle.lgm_store.proofs.ChannelMapLaws.{channel-with}
-use Rattle.lgm_store.proofs.Putting.{put-is}
-use Rattle.lgm_store.proofs.Numbering.{numbered-put, entries-put, found-stored, found-none, has-slot}
+use Rattle.lgm_store.proofs.StoredUpdateLaws.{put-is}
+use Rattle.lgm_store.proofs.SlotNumberLaws.{numbered-put, entries-put, found-stored, found-none, has-slot}
 use Rattle.lgm_store.proofs.channel_table.SlotTable+Scid+ChannelInfo.put_update.Goals as goal
 use Rattle.lgm_store.proofs.channel_table.SlotTable+Scid+ChannelInfo.put_update.Goals.{After-self-1}
 

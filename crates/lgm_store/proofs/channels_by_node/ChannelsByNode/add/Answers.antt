@@ -1,7 +1,7 @@
 use Rattle.std.proofs.Common.{sym}
 use Rattle.std.proofs.lemmas.Result.{on_ok_weaker, on_err_weaker}
 use Rattle.lgm_store.specs.inner.ChannelsByNode.{with_id}
-use Rattle.lgm_store.proofs.Listing.{Lists-change_same, Lists-change, Lists-undo}
+use Rattle.lgm_store.proofs.NodeIdListLaws.{Lists-change_same, Lists-change, Lists-undo}
 use Rattle.lgm_store.proofs.channels_by_node.ChannelsByNode.add.Goals as goal
 
 pub returns-then-eq-clause-ok : goal.returns-then-eq-clause-ok

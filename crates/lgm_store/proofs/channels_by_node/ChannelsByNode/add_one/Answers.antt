@@ -1,7 +1,7 @@
 use Rattle.std.proofs.Common.{◌≡◌, [], Some, unwrap_or, ap, sym, ◌∙◌}
 use Rattle.std.proofs.lemmas.Result.{on_ok_weaker, on_err_weaker}
 use Rattle.lgm_store.specs.inner.ChannelsByNode.{with_id, list_at}
-use Rattle.lgm_store.proofs.Listing.{Sets-put, IsSame-put, kept-with, entry-lent, list-lent, entries-lent}
+use Rattle.lgm_store.proofs.NodeIdListLaws.{Sets-put, IsSame-put, kept-with, entry-lent, list-lent, entries-lent}
 use Rattle.lgm_store.proofs.channels_by_node.ChannelsByNode.add_one.Goals as goal
 
 pub returns-in-Some-clause-ok : goal.returns-in-Some-clause-ok

@@ -1,6 +1,6 @@
 use Rattle.std.proofs.Common.{Bool, true, false, not, ◌≡◌}
 use Rattle.lgm_store.specs.inner.ChannelsByNode.{without_id}
-use Rattle.lgm_store.proofs.Listing.{Lists-change_same, Lists-change}
+use Rattle.lgm_store.proofs.NodeIdListLaws.{Lists-change_same, Lists-change}
 use Rattle.lgm_store.proofs.channels_by_node.ChannelsByNode.remove.Goals as goal
 
 not_true : (b : Bool) → true ≡ not b → b ≡ false

@@ -5,7 +5,7 @@ use Rattle.std.specs.Map.{keys_of}
 use Rattle.std.proofs.Common.{inl}
 use Rattle.indexmap.proofs.CallerLemmas.{keys-with_value_at}
 use Rattle.lgm_store.specs.inner.ChannelsByNode.{list_at, without_id, kept, Sets, MovesLastAlone}
-use Rattle.lgm_store.proofs.Listing.{Sets-put, Sets-out, list-lent, entries-lent, moves-removed}
+use Rattle.lgm_store.proofs.NodeIdListLaws.{Sets-put, Sets-out, list-lent, entries-lent, moves-removed}
 use Rattle.lgm_store.proofs.channels_by_node.ChannelsByNode.remove_one.Goals as goal
 use Rattle.lgm_store.proofs.channels_by_node.ChannelsByNode.remove_one.Goals.{Joined-swap_remove, in-Some+in-One-1, in-Some+in-Many-1, in-None-1}
 

@@ -19,7 +19,7 @@ use Rattle.lgm_store.proofs.Lists.{values-channel}
 use Rattle.lgm_store.proofs.ChannelMapLaws.{lookup-channels, insert-channels, insert-updates, remove-inserted}
 use Rattle.lgm_store.proofs.Soundness.{IsSound-stored, IsSound-listed, lacks}
 use Rattle.lgm_store.proofs.Changes.{is_stored, with_channel-new, with_channel-stored, with_channel-banned, banned-by}
-use Rattle.lgm_store.proofs.Spelling.{AllSpelled-channel}
+use Rattle.lgm_store.proofs.SpelledRowLaws.{AllSpelled-channel}
 use Rattle.lgm_store.proofs.map.Map.add_channel.Goals as goal
 use Rattle.lgm_store.proofs.map.Map.add_channel.Goals.{Joined-stored-2, Then-not-branch}
 

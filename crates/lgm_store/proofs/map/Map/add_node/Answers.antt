@@ -7,9 +7,9 @@ use Rattle.lgm_store.specs.Admission.{node_is_newer}
 use Rattle.lgm_store.specs.Keys.{point_of}
 use Rattle.lgm_store.specs.inner.Decided.{node_verdict}
 use Rattle.lgm_store.specs.Rows.{node_of, ends_channel, is_banned}
-use Rattle.lgm_store.proofs.Deciding.{node-admitted}
+use Rattle.lgm_store.proofs.DecisionLaws.{node-admitted}
 use Rattle.lgm_store.proofs.Lists.{lookup-node}
-use Rattle.lgm_store.proofs.Putting.{node-kept, node-rows}
+use Rattle.lgm_store.proofs.StoredUpdateLaws.{node-kept, node-rows}
 use Rattle.lgm_store.proofs.map.Map.add_node.Goals as goal
 use Rattle.lgm_store.proofs.map.Map.add_node.Goals.{In_ok-put_newer, Else-not-branch}
 

@@ -1,7 +1,7 @@
 use Rattle.std.proofs.Common.{ap, ◌∙◌}
 use Rattle.lgm_store.specs.Rows.{channel_of}
 use Rattle.lgm_store.specs.inner.Decided.{channel_op}
-use Rattle.lgm_store.proofs.Deciding.{channel-decided}
+use Rattle.lgm_store.proofs.DecisionLaws.{channel-decided}
 use Rattle.lgm_store.proofs.map.Map.admit_channel.Goals as goal
 
 pub returns : goal.returns

@@ -1,7 +1,7 @@
 use Rattle.std.proofs.Common.{ap, ◌∙◌}
 use Rattle.lgm_store.specs.Rows.{ends_channel, is_banned, node_of}
 use Rattle.lgm_store.specs.inner.Decided.{node_op}
-use Rattle.lgm_store.proofs.Deciding.{node-decided}
+use Rattle.lgm_store.proofs.DecisionLaws.{node-decided}
 use Rattle.lgm_store.proofs.map.Map.admit_node.Goals as goal
 
 pub returns : goal.returns

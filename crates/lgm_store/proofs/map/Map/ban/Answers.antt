@@ -5,7 +5,7 @@ use Rattle.lgm_store.specs.History.{without_channel, with_banned, with_ban}
 use Rattle.lgm_store.specs.Laws.{AreAllowed}
 use Rattle.lgm_store.specs.declared.op.Op.TheVariants as ops
 use Rattle.lgm_store.proofs.Bans.{closed_all-more, closed_all, allowed-none, banned-all}
-use Rattle.lgm_store.proofs.Ascending.{ascend-with_banned}
+use Rattle.lgm_store.proofs.AscendingRowLaws.{ascend-with_banned}
 use Rattle.lgm_store.proofs.Lawful.{AreAllowed-absorbed}
 use Rattle.lgm_store.proofs.Kept.{rows_of, kept-lawful}
 use Rattle.lgm_store.proofs.map.Map.ban.Goals as goal

@@ -7,7 +7,7 @@ use Rattle.lgm_store.specs.Reading.{is_between}
 use Rattle.lgm_store.specs.inner.ChannelTable.{id_in}
 use Rattle.lgm_store.proofs.ChannelMapLaws.{ascend-stored}
 use Rattle.lgm_store.proofs.ChannelWithUpdates.{values-stored_at, filter-past, filter-keyed}
-use Rattle.lgm_store.proofs.Walking.{forward, within, backward, never}
+use Rattle.lgm_store.proofs.IterationLaws.{forward, within, backward, never}
 use Rattle.lgm_store.proofs.map.Map.channels_between.Goals as goal
 use Rattle.lgm_store.proofs.map.Map.channels_between.Goals.{then-from-to, else-from-to}
 

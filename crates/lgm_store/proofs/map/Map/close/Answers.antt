@@ -11,7 +11,7 @@ use Rattle.lgm_store.proofs.ListLaws.{All-filtered}
 use Rattle.lgm_store.proofs.ChannelMapLaws.{ascend-stored, remove-none}
 use Rattle.lgm_store.proofs.Removals.{IsClosed, closed, IsSound-unchanged}
 use Rattle.lgm_store.proofs.Changes.{is_stored, without_channel-stored, without_channel-none}
-use Rattle.lgm_store.proofs.Spelling.{AllSpelled-left}
+use Rattle.lgm_store.proofs.SpelledRowLaws.{AllSpelled-left}
 use Rattle.lgm_store.proofs.map.Map.close.Goals as goal
 use Rattle.lgm_store.proofs.map.Map.close.Goals.{Joined-stored-2}
 

@@ -1,6 +1,6 @@
 use Rattle.std.proofs.Common.{ap}
 use Rattle.lgm_store.specs.inner.ChannelEntries.{channel_entries, update_entries}
-use Rattle.lgm_store.proofs.Ascending.{IsAscending-sound}
+use Rattle.lgm_store.proofs.AscendingRowLaws.{IsAscending-sound}
 use Rattle.lgm_store.proofs.map.Map.count.Goals as goal
 
 pub returns-clause-ascend : goal.returns-clause-ascend

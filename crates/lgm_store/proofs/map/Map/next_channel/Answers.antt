@@ -12,7 +12,7 @@ use Rattle.lgm_store.specs.inner.ChannelEntries.{channel_entries}
 use Rattle.lgm_store.specs.Reading.{next_channel_of}
 use Rattle.lgm_store.specs.inner.Start.{start_after}
 use Rattle.lgm_store.proofs.ChannelMapLaws.{first-filtered}
-use Rattle.lgm_store.proofs.Walking.{first_value, next_channel-between}
+use Rattle.lgm_store.proofs.IterationLaws.{first_value, next_channel-between}
 use Rattle.lgm_store.proofs.map.Map.next_channel.Goals as goal
 
 abbrev some_row : ChannelRow → Option ChannelRow

@@ -9,7 +9,7 @@ use Rattle.lgm_check.specs.declared.row.NodeRow.{NodeRow}
 use Rattle.lgm_store.specs.Keys.{IsKeyed, point_cmp, point_of}
 use Rattle.lgm_store.specs.Reading.{next_node_of}
 use Rattle.lgm_store.specs.inner.Start.{start_after}
-use Rattle.lgm_store.proofs.Walking.{first_value, next_node-between}
+use Rattle.lgm_store.proofs.IterationLaws.{first_value, next_node-between}
 use Rattle.lgm_store.proofs.map.Map.next_node.Goals as goal
 
 abbrev some_row : NodeRow → Option NodeRow

@@ -12,7 +12,7 @@ use Rattle.lgm_store.specs.Rows.{channel_of, update_of, is_second}
 use Rattle.lgm_store.proofs.ChannelMapLaws.{ascend-stored}
 use Rattle.lgm_store.proofs.ChannelWithUpdates.{channel_at, update_at}
 use Rattle.lgm_store.proofs.Kept.{rows_of}
-use Rattle.lgm_store.proofs.Putting.{put-kept, put-rows}
+use Rattle.lgm_store.proofs.StoredUpdateLaws.{put-kept, put-rows}
 use Rattle.lgm_store.proofs.map.Map.offer_update.Goals as goal
 use Rattle.lgm_store.proofs.map.Map.offer_update.Goals.{Joined-offer_update, in-Ok, in-Err}
 

@@ -4,7 +4,7 @@ use Rattle.lgm_gossip.specs.declared.message.Message.TheVariants as wired
 use Rattle.lgm_check.specs.declared.row.NodeRow.{NodeRow}
 use Rattle.lgm_store.specs.Keys.{point_of}
 use Rattle.lgm_store.specs.Rows.{ends_channel}
-use Rattle.lgm_store.proofs.Putting.{node-kept, node-rows}
+use Rattle.lgm_store.proofs.StoredUpdateLaws.{node-kept, node-rows}
 use Rattle.lgm_store.proofs.map.Map.put_node.Goals as goal
 use Rattle.lgm_store.proofs.map.Map.put_node.Goals.{In_ok-put}
 

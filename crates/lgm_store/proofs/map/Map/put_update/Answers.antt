@@ -2,7 +2,7 @@ use Rattle.std.proofs.Common.{subst}
 use Rattle.lgm_gossip.specs.Message.{Wire}
 use Rattle.lgm_gossip.specs.declared.message.Message.TheVariants as wired
 use Rattle.lgm_check.specs.declared.row.UpdateRow.{UpdateRow}
-use Rattle.lgm_store.proofs.Putting.{put-kept, put-rows}
+use Rattle.lgm_store.proofs.StoredUpdateLaws.{put-kept, put-rows}
 use Rattle.lgm_store.proofs.map.Map.put_update.Goals as goal
 
 pub invariant_of-self : goal.invariant_of-self

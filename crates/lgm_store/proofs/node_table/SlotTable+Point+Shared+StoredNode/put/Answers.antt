@@ -2,7 +2,7 @@ use Rattle.std.proofs.Common.{refl}
 use Rattle.slab.specs.Slab.{with_value}
 use Rattle.lgm_store.specs.Keys.{point_of}
 use Rattle.lgm_store.proofs.KeyOrder.{by_node}
-use Rattle.lgm_store.proofs.Numbering.{IsPut, put-added, put-found, has-found}
+use Rattle.lgm_store.proofs.SlotNumberLaws.{IsPut, put-added, put-found, has-found}
 use Rattle.lgm_store.proofs.node_table.SlotTable+Point+Shared+StoredNode.put.Goals as goal
 use Rattle.lgm_store.proofs.node_table.SlotTable+Point+Shared+StoredNode.put.Goals.{In_default, After-drop-index_mut}
 

@@ -7,7 +7,7 @@ use Rattle.lgm_store.specs.Keys.{point_cmp, point_of}
 use Rattle.lgm_store.specs.Admission.{node_is_newer}
 use Rattle.lgm_store.specs.inner.Slots.{IsAdded, IsFound}
 use Rattle.lgm_store.proofs.KeyOrder.{by_node}
-use Rattle.lgm_store.proofs.Numbering.{IsPut, put-added, put-found, has-found, found-value, found-none}
+use Rattle.lgm_store.proofs.SlotNumberLaws.{IsPut, put-added, put-found, has-found, found-value, found-none}
 use Rattle.lgm_store.proofs.node_table.SlotTable+Point+Shared+StoredNode.put_newer.Goals as goal
 use Rattle.lgm_store.proofs.node_table.SlotTable+Point+Shared+StoredNode.put_newer.Goals.{In_default, After-drop-index_mut}
 

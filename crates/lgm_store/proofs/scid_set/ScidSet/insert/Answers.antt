@@ -1,7 +1,7 @@
 use Rattle.std.proofs.Common.{[], ap, sym, ◌∙◌}
 use Rattle.lgm_store.specs.inner.ChannelsByNode.{with_id}
 use Rattle.lgm_store.specs.inner.ScidSet.{collected, ids_in}
-use Rattle.lgm_store.proofs.Collecting.{collected-push}
+use Rattle.lgm_store.proofs.ScidSetLaws.{collected-push}
 use Rattle.lgm_store.proofs.scid_set.ScidSet.insert.Goals as goal
 
 pub returns-in_ok-push-in-Many-clause-ok : goal.returns-in_ok-push-in-Many-clause-ok

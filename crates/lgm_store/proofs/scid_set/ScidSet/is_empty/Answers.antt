@@ -1,7 +1,7 @@
 use Rattle.std.proofs.Common.{length, ap, sym, ◌∙◌}
 use Rattle.std.specs.Prelude.{◌==◌}
 use Rattle.lgm_store.specs.inner.ScidSet.{ids_in}
-use Rattle.lgm_store.proofs.Collecting.{is_empty-collected}
+use Rattle.lgm_store.proofs.ScidSetLaws.{is_empty-collected}
 use Rattle.lgm_store.proofs.scid_set.ScidSet.is_empty.Goals as goal
 
 pub returns-in-Many : goal.returns-in-Many

@@ -1,7 +1,7 @@
 use Rattle.std.proofs.Common.{[], ap, sym, ◌∙◌}
 use Rattle.lgm_store.specs.inner.ChannelsByNode.{without_id}
 use Rattle.lgm_store.specs.inner.ScidSet.{collected, ids_in}
-use Rattle.lgm_store.proofs.Collecting.{collected-others}
+use Rattle.lgm_store.proofs.ScidSetLaws.{collected-others}
 use Rattle.lgm_store.proofs.scid_set.ScidSet.remove.Goals as goal
 
 pub returns-in-Many : goal.returns-in-Many

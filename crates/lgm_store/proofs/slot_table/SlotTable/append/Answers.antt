@@ -1,8 +1,8 @@
 use Rattle.std.proofs.Common.{◌≡◌, true, false, refl, sym, ap, ◌∙◌}
 use Rattle.std.specs.Prelude.{is_some}
 use Rattle.lgm_store.proofs.KeyOrder.{IsKeyOrder}
-use Rattle.lgm_store.proofs.Numbering.{IsPut, put-added, found-held}
-use Rattle.lgm_store.proofs.Packing.{insert-last, lookup-last}
+use Rattle.lgm_store.proofs.SlotNumberLaws.{IsPut, put-added, found-held}
+use Rattle.lgm_store.proofs.PackedSlotLaws.{insert-last, lookup-last}
 use Rattle.lgm_store.proofs.slot_table.SlotTable.append.Given.{Over}
 use Rattle.lgm_store.proofs.slot_table.SlotTable.append.Goals as goal
 use Rattle.lgm_store.proofs.slot_table.SlotTable.append.Goals.{In-None}

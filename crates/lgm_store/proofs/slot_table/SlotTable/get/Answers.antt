@@ -1,6 +1,6 @@
 use Rattle.std.proofs.Common.{sym}
 use Rattle.lgm_store.proofs.KeyOrder.{IsKeyOrder}
-use Rattle.lgm_store.proofs.Numbering.{found-stored, found-none, has-slot}
+use Rattle.lgm_store.proofs.SlotNumberLaws.{found-stored, found-none, has-slot}
 use Rattle.lgm_store.proofs.slot_table.SlotTable.get.Goals as goal
 
 pub returns-in_err-number : goal.returns-in_err-number

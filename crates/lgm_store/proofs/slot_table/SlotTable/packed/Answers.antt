@@ -4,8 +4,8 @@ use Rattle.std.specs.Map.{keys_of}
 use Rattle.lgm_store.specs.inner.Slots.{slot_at, entries_in, HaveOwn}
 use Rattle.lgm_store.proofs.KeyOrder.{IsKeyOrder}
 use Rattle.lgm_store.proofs.Slotted.{in_slot}
-use Rattle.lgm_store.proofs.Numbering.{ascend-slots}
-use Rattle.lgm_store.proofs.Packing.{highest, taken_over, next_copied}
+use Rattle.lgm_store.proofs.SlotNumberLaws.{ascend-slots}
+use Rattle.lgm_store.proofs.PackedSlotLaws.{highest, taken_over, next_copied}
 use Rattle.lgm_store.proofs.slot_table.SlotTable.packed.Goals as goal
 
 pub loop-number-init : goal.loop-number-init

@@ -5,7 +5,7 @@ use Rattle.lgm_store.specs.inner.Slots.{entries_in, IsNumbered}
 use Rattle.lgm_store.proofs.KeyOrder.{IsKeyOrder}
 use Rattle.lgm_store.proofs.ChannelMapLaws.{remove-none}
 use Rattle.lgm_store.proofs.Slotted.{removed}
-use Rattle.lgm_store.proofs.Numbering.{numbered-remove, found-stored, found-none, has-slot, ascend-slots}
+use Rattle.lgm_store.proofs.SlotNumberLaws.{numbered-remove, found-stored, found-none, has-slot, ascend-slots}
 use Rattle.lgm_store.proofs.slot_table.SlotTable.remove.Given.{Over}
 use Rattle.lgm_store.proofs.slot_table.SlotTable.remove.Goals as goal
 use Rattle.lgm_store.proofs.slot_table.SlotTable.remove.Goals.{After-from_residual, After-remove-2}

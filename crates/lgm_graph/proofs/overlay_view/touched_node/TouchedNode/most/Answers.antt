@@ -2,7 +2,7 @@ use Rattle.std.proofs.Common.{◌≡◌, ◌∙◌, ℕ, List, false, sym, subst
 use Rattle.std.specs.Prelude.{eqb}
 use Rattle.std.specs.List.{list_any}
 use Rattle.lgm_graph.specs.inner.Overlaying.{Said, most_in}
-use Rattle.lgm_graph.proofs.Limiting.{any_of_all, not_limited}
+use Rattle.lgm_graph.proofs.LimitLaws.{any_of_all, not_limited}
 use Rattle.lgm_graph.proofs.overlay_view.touched_node.TouchedNode.most.Goals as goal
 
 pub returns-then-not-has_scid : goal.returns-then-not-has_scid

@@ -1,5 +1,5 @@
 use Rattle.std.proofs.Common.{◌<◌, ◌^◌, length, arith}
-use Rattle.lgm_graph.proofs.Touching.{none_placed}
+use Rattle.lgm_graph.proofs.TouchedNodeLaws.{none_placed}
 use Rattle.lgm_graph.proofs.overlay_view.touched_nodes.TouchedNodes.new.Goals as goal
 
 pub invariant_of-result : goal.invariant_of-result

@@ -1,6 +1,6 @@
 use Rattle.std.proofs.Common.{◌≡◌, ◌∙◌, ◌<◌, suc, length, sym, ap, subst}
 use Rattle.lgm_graph.specs.inner.Overlaying.{Said, Touched, heard, place_of, said_of}
-use Rattle.lgm_graph.proofs.Touching.{told_placed, told_own, was_own, told_other}
+use Rattle.lgm_graph.proofs.TouchedNodeLaws.{told_placed, told_own, was_own, told_other}
 use Rattle.lgm_graph.proofs.overlay_view.touched_nodes.TouchedNodes.say.Goals as goal
 
 pub invariant_of-self : goal.invariant_of-self

@@ -4,7 +4,7 @@ use Rattle.lgm_graph.specs.Edges.{PointEdge}
 use Rattle.lgm_graph.specs.Graph.{number_of, numbered_as, numbered_in}
 use Rattle.lgm_graph.specs.Overlay.{extra_edge, is_named, limited}
 use Rattle.lgm_graph.specs.inner.Overlaying.{Sayings, AreSaid, AreHeard, sayings_of, said_of, has_id, most_in}
-use Rattle.lgm_graph.proofs.Saying.{slice_number, leaving_more, entering_more, named_said, extra_there, extra_new}
+use Rattle.lgm_graph.proofs.SayingLaws.{slice_number, leaving_more, entering_more, named_said, extra_there, extra_new}
 use Rattle.lgm_graph.proofs.overlay_view.touched_nodes.TouchedNodes.say_extra.Goals as goal
 
 abbrev with_max : Edge → ℕ → Edge

@@ -1,5 +1,5 @@
 use Rattle.std.proofs.Common.{◌∙◌, sym}
-use Rattle.lgm_graph.proofs.Saying.{heard_at, unheard}
+use Rattle.lgm_graph.proofs.SayingLaws.{heard_at, unheard}
 use Rattle.lgm_graph.proofs.overlay_view.touched_nodes.TouchedNodes.say_of.Goals as goal
 
 pub returns-in_ok-say-clause-heard : goal.returns-in_ok-say-clause-heard

@@ -8,7 +8,7 @@ use Rattle.lgm_graph.specs.Graph.{IsJoined}
 use Rattle.lgm_graph.specs.Overlay.{extra_edge}
 use Rattle.lgm_graph.specs.inner.Overlaying.{Sayings, AreSaid, sayings_of}
 use Rattle.lgm_graph.proofs.Further.{joined_at}
-use Rattle.lgm_graph.proofs.Saying.{silent_more, limit_more, next_mapped, nothing_said}
+use Rattle.lgm_graph.proofs.SayingLaws.{silent_more, limit_more, next_mapped, nothing_said}
 use Rattle.lgm_graph.proofs.overlay_view.touched_nodes.TouchedNodes.say_overlay.Goals as goal
 
 abbrev said_so : List Point → List Limit → Sayings

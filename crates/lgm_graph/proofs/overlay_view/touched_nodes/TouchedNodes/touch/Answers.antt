@@ -1,6 +1,6 @@
 use Rattle.std.proofs.Common.{◌≡◌, ◌∙◌, ◌^◌, rules, ◌<◌, ◌+◌, ◌-◌, ℕ, zero, suc, length, set, refl, sym, ap, subst, arith}
 use Rattle.lgm_graph.specs.inner.Overlaying.{Touched, IsTouchedMore, place_of}
-use Rattle.lgm_graph.proofs.Touching.{place_within, few_nodes, touched_placed, touched_more}
+use Rattle.lgm_graph.proofs.TouchedNodeLaws.{place_within, few_nodes, touched_placed, touched_more}
 use Rattle.lgm_graph.proofs.overlay_view.touched_nodes.TouchedNodes.touch.Goals as goal
 
 -- the node has no place so far

@@ -1,5 +1,5 @@
 use Rattle.std.proofs.Common.{◌<◌, length, length-append, ap, arith, rules}
-use Rattle.lgm_graph.proofs.Touching.{more_again, reached_next}
+use Rattle.lgm_graph.proofs.TouchedNodeLaws.{more_again, reached_next}
 use Rattle.lgm_graph.proofs.overlay_view.touched_nodes.TouchedNodes.touch_targets.Goals as goal
 
 pub loop-k-preserved : goal.loop-k-preserved

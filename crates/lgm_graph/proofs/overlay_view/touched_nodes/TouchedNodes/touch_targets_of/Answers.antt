@@ -6,7 +6,7 @@ use Rattle.lgm_graph.specs.declared.edge.Edge.{Edge}
 use Rattle.lgm_graph.specs.Graph.{edges_leaving}
 use Rattle.lgm_graph.specs.inner.Overlaying.{Said, Touched, LeadsTo}
 use Rattle.lgm_graph.proofs.Further.{slice_left}
-use Rattle.lgm_graph.proofs.Touching.{more_again, one_leading, reached_at}
+use Rattle.lgm_graph.proofs.TouchedNodeLaws.{more_again, one_leading, reached_at}
 use Rattle.lgm_graph.proofs.overlay_view.touched_nodes.TouchedNodes.touch_targets_of.Goals as goal
 
 pub touch_target-requires : goal.touch_target-requires

@@ -1,8 +1,0 @@
-use Rattle.std.proofs.lemmas.Result.{err_from_is_err_and}
-use Rattle.lgm_script.proofs.Telling.{tells_none}
-use Rattle.lgm_answers.proofs.send.send_to.Goals as goal
-
-pub returns-in_err-lead : goal.returns-in_err-lead
-returns-in_err-lead g c =
-    let p = err_from_is_err_and c.from_residual.result c.from_residual.ensures.1 in
-    λ all gives. rw (p.1, p.2) (tells_none _ _)

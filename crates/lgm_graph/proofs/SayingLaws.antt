@@ -1,0 +1,231 @@
+-- What is said of nodes, one thing after the other.
+use Rattle.std.proofs.Common.{◌≡◌, ◌≢◌, ℕ, ◌+◌, ◌<◌, Bool, true, false, cond, ◌&&◌, ◌||◌, List, [], ◌∷◌, ◌++◌, length, map, get_or, take}
+use Rattle.std.proofs.Common.{refl, sym, ap, ◌∙◌, Some, None, arith, true≢false}
+use Rattle.std.specs.Prelude.{eqb, min, unwrap_or}
+use Rattle.std.specs.List.{IsDistinct, filter, list_any, position, slice_get}
+use Rattle.std.proofs.lemmas.List.{map-append, append-nil, take_more}
+use Rattle.std.proofs.lemmas.List.Elements.{filter-append}
+use Rattle.std.proofs.lemmas.List.Folds.{list_any-append}
+use Rattle.std.proofs.lemmas.List.Sums.{fold-append}
+use Rattle.std.proofs.lemmas.Option.{slice_get-get_or}
+use Rattle.lgm_wire.specs.declared.point.Point.{Point}
+use Rattle.lgm_store.specs.Rows.{is_point}
+use Rattle.lgm_store.proofs.Points.{same_point, is_point-self}
+use Rattle.lgm_graph.specs.declared.edge.Edge.{Edge}
+use Rattle.lgm_graph.specs.declared.overlay.ExtraEdge.{ExtraEdge}
+use Rattle.lgm_graph.specs.declared.overlay.Limit.{Limit}
+use Rattle.lgm_graph.specs.declared.overlay_view.saying.Saying.{Saying}
+use Rattle.lgm_graph.specs.declared.overlay_view.saying.Saying.TheVariants.{Silent, Limited, Leaving, Entering}
+use Rattle.lgm_graph.specs.Edges.{PointEdge}
+use Rattle.lgm_graph.specs.Graph.{edges_with, number_of, IsNumbered, numbered_in}
+use Rattle.lgm_graph.specs.Overlay.{OverlayParts, has_key, is_named, with_first, firsts, extra_edge, at_most, most_of, limited}
+use Rattle.lgm_graph.specs.inner.Overlaying.{Said, Touched, Sayings, IsSaid, AreSaid, AreHeard, sayings_of, extra_over}
+use Rattle.lgm_graph.specs.inner.Overlaying.{nothing_of, at_place, place_of, said_of, heard, has_id, most_in}
+use Rattle.lgm_graph.proofs.Further.{not_numbered}
+use Rattle.lgm_graph.proofs.Keys.{or_false, firsts_name}
+use Rattle.lgm_graph.proofs.NewNumberLaws.{number_at}
+use Rattle.lgm_graph.proofs.Numbers.{number_some, get_number}
+
+-- ---- points by number
+
+-- a numbered point is at its number
+pub slice_number : (points : List Point) (p : Point) → IsNumbered points p → slice_get points (number_of points p) ≡ Some p
+slice_number points p there =
+    slice_get-get_or points (number_of points p) p there ∙ ap Some (get_number points p p there)
+
+module _ (points : List Point) (distinct : IsDistinct is_point points) (point : Point) (saying : Saying) (old new : Touched) where
+  -- what is said at the number of a point is said of the point
+  pub heard_at : (m : ℕ) → position (is_point point) points ≡ Some m → said_of new m ≡ heard (said_of old m) saying
+      → ((other : ℕ) → other ≢ m → said_of new other ≡ said_of old other) → AreHeard points point saying old new
+  heard_at m is own others n p at = by (is_point p point) refl
+    where
+      found : (number_of points point ≡ m) × (m < length points)
+      found = number_some points point m is
+
+      by : (b : Bool) → is_point p point ≡ b → said_of new n ≡ cond (is_point p point) (heard (said_of old n) saying) (said_of old n)
+      by true same =
+          let turned : is_point point p ≡ true = ap (λ (q : Point). is_point q p) (sym (same_point p point same)) ∙ is_point-self p in
+          let here : n ≡ m = (number_at points n point p distinct at turned).0 ∙ found.0 in
+          ap (said_of new) here ∙ own ∙ ap (λ k. heard (said_of old k) saying) (sym here) ∙ rw same refl
+      by false apart = others n away ∙ rw apart refl
+        where
+          away : n ≢ m
+          away here =
+              let there : IsNumbered points point = omega (arith, found.0, found.1) in
+              let same : p ≡ point =
+              let h : Some p ≡ Some point = sym at ∙ ap (slice_get points) (here ∙ sym found.0) ∙ slice_number points point there in cc in
+              true≢false (sym (ap (λ (q : Point). is_point q point) same ∙ is_point-self point) ∙ apart)
+
+  -- of a point without a number nothing is said
+  pub unheard : position (is_point point) points ≡ None → AreHeard points point saying old old
+  unheard none n p at = by (is_point p point) refl
+    where
+      by : (b : Bool) → is_point p point ≡ b → said_of old n ≡ cond (is_point p point) (heard (said_of old n) saying) (said_of old n)
+      by true same =
+          let turned : is_point point p ≡ true = ap (λ (q : Point). is_point q p) (sym (same_point p point same)) ∙ is_point-self p in
+          absurd (not_numbered points point none (number_at points n point p distinct at turned).1)
+      by false apart = rw apart refl
+
+-- ---- one thing more
+
+-- edges with an end at a point, after one more
+edges_last : (end : PointEdge → Point) (points : List Point) (edges : List PointEdge) (edge : PointEdge) (p : Point) (b : Bool) → is_point p (end edge) ≡ b
+    → edges_with end points (edges ++ edge ∷ []) p ≡ cond b (edges_with end points edges p ++ numbered_in points edge ∷ []) (edges_with end points edges p)
+edges_last end points edges edge p true is =
+    rw (filter-append (λ e. is_point p (end e)) edges (edge ∷ []), is)
+    (map-append (numbered_in points) (filter (λ e. is_point p (end e)) edges) (edge ∷ []))
+edges_last end points edges edge p false is =
+    rw (filter-append (λ e. is_point p (end e)) edges (edge ∷ []), is, append-nil (filter (λ e. is_point p (end e)) edges)) refl
+
+or_true : (b : Bool) → (b || true) ≡ true
+or_true true = refl
+or_true false = refl
+
+module _ (points : List Point) (sayings : Sayings) (old new : Touched) (all : AreSaid sayings points old) where
+  -- what holds of each point still holds, if it does of the one and of the others
+  step : (point : Point) (saying : Saying) (more : Sayings) → AreHeard points point saying old new
+      → ((p : Point) (said : Said) → is_point p point ≡ true → IsSaid sayings points p said → IsSaid more points p (heard said saying))
+      → ((p : Point) (said : Said) → is_point p point ≡ false → IsSaid sayings points p said → IsSaid more points p said)
+      → AreSaid more points new
+  step point saying more changed own other n p at = by (is_point p point) refl
+    where
+      by : (b : Bool) → is_point p point ≡ b → IsSaid more points p (said_of new n)
+      by true same = rw (changed n p at, same) (own p (said_of old n) same (all n p at))
+      by false apart = rw (changed n p at, apart) (other p (said_of old n) apart (all n p at))
+
+  pub silent_more : (node : Point) → AreHeard points node Silent old new → AreSaid (record sayings { silent = sayings.silent ++ node ∷ [] }) points new
+  silent_more node changed = step node Silent (record sayings { silent = sayings.silent ++ node ∷ [] }) changed
+      (λ p said same was. record {
+        silent = sym (list_any-append (is_point p) sayings.silent (node ∷ []) ∙ rw same (or_true (list_any (is_point p) sayings.silent)));
+        limits = was.limits;
+        leaving = was.leaving;
+        entering = was.entering;
+      })
+      (λ p said apart was. record {
+        silent = was.silent ∙ sym (list_any-append (is_point p) sayings.silent (node ∷ []) ∙ rw apart (or_false (list_any (is_point p) sayings.silent)));
+        limits = was.limits;
+        leaving = was.leaving;
+        entering = was.entering;
+      })
+
+  pub limit_more : (limit : Limit) → AreHeard points limit.from (Limited limit) old new
+      → AreSaid (record sayings { limits = sayings.limits ++ limit ∷ [] }) points new
+  limit_more limit changed = step limit.from (Limited limit) (record sayings { limits = sayings.limits ++ limit ∷ [] }) changed
+      (λ p said same was. record {
+        silent = was.silent;
+        limits = λ id max.
+            fold-append _ max said.limits (limit ∷ []) ∙ own p said same was id max (eqb limit.scid id) refl
+            ∙ sym (fold-append (at_most id p) max sayings.limits (limit ∷ []));
+        leaving = was.leaving;
+        entering = was.entering;
+      })
+      (λ p said apart was. record {
+        silent = was.silent;
+        limits = λ id max.
+            was.limits id max ∙ other p apart id max (eqb limit.scid id) refl ∙ sym (fold-append (at_most id p) max sayings.limits (limit ∷ []));
+        leaving = was.leaving;
+        entering = was.entering;
+      })
+    where
+      own : (p : Point) (said : Said) → is_point p limit.from ≡ true → IsSaid sayings points p said → (id max : ℕ) → (c : Bool) → eqb limit.scid id ≡ c
+          → cond (eqb limit.scid id) (min (most_in said.limits id max) limit.most) (most_in said.limits id max)
+          ≡ at_most id p (most_of sayings.limits id p max) limit
+      own p said same was id max true is = rw (is, same) (ap (λ m. min m limit.most) (was.limits id max))
+      own p said same was id max false is = rw is (was.limits id max)
+
+      other : (p : Point) → is_point p limit.from ≡ false → (id max : ℕ) → (c : Bool) → eqb limit.scid id ≡ c
+          → most_of sayings.limits id p max ≡ at_most id p (most_of sayings.limits id p max) limit
+      other p apart id max true is = rw (is, apart) refl
+      other p apart id max false is = rw is refl
+
+  module _ (edge : PointEdge) (pushed : Edge) (pushed_is : pushed ≡ numbered_in points edge) where
+    pub leaving_more : AreHeard points edge.from (Leaving pushed) old new → AreSaid (record sayings { leaving = sayings.leaving ++ edge ∷ [] }) points new
+    leaving_more changed = step edge.from (Leaving pushed) (record sayings { leaving = sayings.leaving ++ edge ∷ [] }) changed
+        (λ p said same was. record {
+          silent = was.silent;
+          limits = was.limits;
+          leaving = rw (was.leaving, pushed_is) (sym (edges_last (λ d. d.from) points sayings.leaving edge p true same));
+          entering = was.entering;
+        })
+        (λ p said apart was. record {
+          silent = was.silent;
+          limits = was.limits;
+          leaving = was.leaving ∙ sym (edges_last (λ d. d.from) points sayings.leaving edge p false apart);
+          entering = was.entering;
+        })
+
+    pub entering_more : AreHeard points edge.to (Entering pushed) old new → AreSaid (record sayings { entering = sayings.entering ++ edge ∷ [] }) points new
+    entering_more changed = step edge.to (Entering pushed) (record sayings { entering = sayings.entering ++ edge ∷ [] }) changed
+        (λ p said same was. record {
+          silent = was.silent;
+          limits = was.limits;
+          leaving = was.leaving;
+          entering = rw (was.entering, pushed_is) (sym (edges_last (λ d. d.to) points sayings.entering edge p true same));
+        })
+        (λ p said apart was. record {
+          silent = was.silent;
+          limits = was.limits;
+          leaving = was.leaving;
+          entering = was.entering ∙ sym (edges_last (λ d. d.to) points sayings.entering edge p false apart);
+        })
+
+-- ---- extra edges
+
+-- ids out of a node
+ids_at : (points : List Point) (edges : List PointEdge) (id : ℕ) (from : Point)
+    → has_id id (edges_with (λ e. e.from) points edges from) ≡ list_any (has_key id from) edges
+ids_at points [] id from = refl
+ids_at points (e ∷ es) id from = by (ids_at points es id from) (is_point from e.from) refl (eqb e.scid id) refl
+  where
+    left : List PointEdge
+    left = filter (λ d. is_point from d.from) es
+
+    by : has_id id (map (numbered_in points) left) ≡ list_any (has_key id from) es
+        → (b : Bool) → is_point from e.from ≡ b → (c : Bool) → eqb e.scid id ≡ c
+        → has_id id (map (numbered_in points) (cond (is_point from e.from) (e ∷ left) left))
+        ≡ ((eqb e.scid id && is_point from e.from) || list_any (has_key id from) es)
+    by rest true b true c = rw (b, c) refl
+    by rest true b false c = rw (b, c) rest
+    by rest false b true c = rw (b, c) rest
+    by rest false b false c = rw (b, c) rest
+
+module _ (overlay : OverlayParts) (edge : PointEdge) where
+  named_limited : (edges : List PointEdge) → list_any (has_key edge.scid edge.from) (map (limited overlay.limits) edges) ≡ is_named edges edge
+  named_limited [] = refl
+  named_limited (e ∷ es) = ap (λ b. has_key edge.scid edge.from e || b) (named_limited es)
+
+  -- an extra edge out of the node has the id if one has the key
+  pub named_said : (points : List Point) (t : Touched) → AreSaid (sayings_of overlay) points t → IsNumbered points edge.from
+      → has_id edge.scid (said_of t (number_of points edge.from)).leaving ≡ is_named overlay.extra edge
+  named_said points t all there =
+      ap (has_id edge.scid) (all (number_of points edge.from) edge.from (slice_number points edge.from there)).leaving
+      ∙ ids_at points (extra_over overlay) edge.scid edge.from ∙ named_limited (firsts overlay.extra) ∙ firsts_name edge [] overlay.extra
+
+  -- with one more
+  abbrev pub wider : OverlayParts
+  wider = record overlay { extra = overlay.extra ++ edge ∷ [] }
+
+  more_over : (b : Bool) → is_named overlay.extra edge ≡ b
+      → extra_over wider ≡ map (limited overlay.limits) (cond b (firsts overlay.extra) (firsts overlay.extra ++ edge ∷ []))
+  more_over b is =
+      ap (map (limited overlay.limits)) (fold-append with_first [] overlay.extra (edge ∷ []) ∙ rw (firsts_name edge [] overlay.extra ∙ is) refl)
+
+  pub extra_there : is_named overlay.extra edge ≡ true → extra_over wider ≡ extra_over overlay
+  extra_there is = more_over true is
+
+  pub extra_new : is_named overlay.extra edge ≡ false → extra_over wider ≡ extra_over overlay ++ limited overlay.limits edge ∷ []
+  extra_new is = more_over false is ∙ map-append (limited overlay.limits) (firsts overlay.extra) (edge ∷ [])
+
+-- ---- lists of things
+
+pub next_mapped : (extra : List ExtraEdge) (i : ℕ) (item : ExtraEdge) → i < length extra → item ≡ get_or extra i item
+    → map extra_edge (take (i + 1) extra) ≡ map extra_edge (take i extra) ++ extra_edge item ∷ []
+next_mapped extra i item lt is =
+    ap (map extra_edge) (take_more extra i item lt ∙ ap (λ x. take i extra ++ x ∷ []) (sym is)) ∙ map-append extra_edge (take i extra) (item ∷ [])
+
+-- nothing was said
+pub nothing_said : (points : List Point) (t : Touched) → ((number : ℕ) → place_of t number ≡ 0)
+    → AreSaid (record { silent = []; limits = []; leaving = []; entering = [] }) points t
+nothing_said points t none n p at =
+    let bare : said_of t n ≡ nothing_of n = ap (λ k. unwrap_or (at_place t.nodes k) (nothing_of n)) (none n) in
+    rw bare (record { silent = refl; limits = λ id max. refl; leaving = refl; entering = refl })

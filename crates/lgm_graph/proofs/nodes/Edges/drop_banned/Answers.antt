@@ -1,9 +1,0 @@
-use Rattle.std.proofs.Common.{rules, ◌∙◌}
-use Rattle.std.proofs.lemmas.Fn.{filter_same}
-use Rattle.lgm_graph.specs.inner.Sound.{is_allowed}
-use Rattle.lgm_graph.proofs.nodes.Edges.drop_banned.Goals as goal
-
-pub returns : goal.returns
-returns c = c.shrink.ensures ∙
-    filter_same _ (is_allowed c.args.points.now.keys c.args.stored.now.banned) _ (λ x b f' k. search rules)
-    c.args.self.now.edges.items c.retain.new.self.items c.retain.ensures.filtered

@@ -1,7 +1,0 @@
-use Rattle.std.proofs.Common.{◌≡◌, ℕ, List, take}
-use Rattle.lgm_query.specs.Backlog.{is_among}
-use Rattle.lgm_query.specs.inner.MessageSet.{is_known}
-use Rattle.lgm_query.proofs.filter.known.Given as goal
-
-abbrev pub invariant-loop-message : goal.invariant-loop-message
-invariant-loop-message l = (message : List ℕ) → is_known l.known.keys message ≡ is_among (take l.message-index l.messages) message

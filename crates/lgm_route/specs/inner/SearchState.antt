@@ -1,0 +1,112 @@
+-- A search as one value: its input, and its state.
+use Rattle.std.specs.Prelude.{◌≡◌, ℕ, ◌+◌, ◌^◌, ◌≤◌, List, length, Option, Bool, true, false, slice_index_or}
+use Rattle.lgm_graph.specs.Graph.{Graph, edges, AreListed}
+use Rattle.lgm_graph.specs.declared.edge.Edge.{Edge}
+use Rattle.lgm_route.specs.declared.request.NumberedRequest.{NumberedRequest}
+use Rattle.lgm_route.specs.declared.label.Label.{Label}
+use Rattle.lgm_route.specs.inner.Numbered.{IsUsable}
+use Rattle.lgm_route.specs.inner.Bounding.{AreLow}
+use Rattle.lgm_route.specs.inner.Searching.{Low, label_at, number_at, cost, bound_of, IsSettled, AreLabels, IsFound, Grows}
+use Rattle.lgm_route.specs.inner.Searching.{RelaxesOn, RelaxesAll, AreSettled, IsNoBetter, IsUpperBound}
+use Rattle.lgm_route.specs.inner.Relaxations.{IsInto, IsRelaxation, AreRelaxations}
+
+-- the edges, the request, lower bounds from the payer to each node, and an upper bound on the best walk
+pub record Ground : Type 0 where
+  pub graph : Graph
+  pub request : NumberedRequest
+  pub low : Low
+  pub upper_bound : ℕ
+
+-- the labels, the best walk so far, and which labels are settled
+pub record SearchState : Type 0 where
+  pub ground : Ground
+  pub labels : List Label
+  pub best : Option Label
+  pub done : List Bool
+
+abbrev pub state_of : Graph → NumberedRequest → Low → ℕ → List Label → Option Label → List Bool → SearchState
+state_of graph request low upper_bound labels best done = record {
+  ground = record { graph = graph; request = request; low = low; upper_bound = upper_bound };
+  labels = labels;
+  best = best;
+  done = done;
+}
+
+pub record IsGround (ground : Ground) : Type 0 where
+  pub listed : AreListed ground.graph
+  pub long : length ground.low.fees ≡ length ground.graph.points
+  pub low : AreLow (edges ground.graph) ground.request ground.low
+  pub small : ground.upper_bound ≤ 2 ^ 64
+
+-- labels represent rests, the best walk is one, and marked labels are settled
+pub record IsSearch (state : SearchState) : Type 0 where
+  pub ground : IsGround state.ground
+  pub labelled : AreLabels state.ground.graph state.ground.request state.labels
+  pub found : IsFound state.ground.graph state.ground.request state.labels state.ground.upper_bound state.best
+  pub settled : AreSettled state.ground.graph state.ground.request state.ground.low state.ground.upper_bound
+      state.labels state.best state.done
+
+-- the same search later: labels were added, the best walk is no worse, and what was marked still is
+pub record Extends (before after : SearchState) : Type 0 where
+  pub ground : after.ground ≡ before.ground
+  pub grows : Grows before.ground.graph before.ground.request before.ground.upper_bound before.labels before.best
+      after.labels after.best
+  pub still : (i : ℕ) → slice_index_or before.done i false ≡ true → slice_index_or after.done i false ≡ true
+
+-- the bound that a better walk is below
+abbrev pub bound_in : SearchState → ℕ
+bound_in state = bound_of state.ground.upper_bound state.best
+
+-- no walk over a label is better than the best so far, by the lower bound on its cost
+abbrev pub IsPruned : SearchState → ℕ → Type 0
+IsPruned state i =
+    let label = label_at state.labels i in
+    bound_in state ≤ cost (label.amount + number_at state.ground.low.fees label.node) label.hops
+
+-- the label at the index is settled
+abbrev pub IsSettledAt : SearchState → ℕ → Type 0
+IsSettledAt state i =
+    IsSettled state.ground.graph state.ground.request state.ground.low state.ground.upper_bound state.labels
+    state.best (label_at state.labels i)
+
+-- and marked as settled
+abbrev pub IsMarkedAt : SearchState → ℕ → Type 0
+IsMarkedAt state i = slice_index_or state.done i false ≡ true
+
+-- the edge is the one at the index among those into the label's node
+abbrev pub IsIntoAt : SearchState → ℕ → ℕ → Edge → Type 0
+IsIntoAt state i at edge = IsInto state.ground.graph state.labels i at edge
+
+-- the relaxation of the label at the index over the edge, if it is needed
+abbrev pub IsRelaxationAt : SearchState → ℕ → Edge → Option Label → Type 0
+IsRelaxationAt state i edge relaxation =
+    IsRelaxation state.ground.graph state.ground.request state.ground.low (bound_in state) state.labels i edge relaxation
+
+-- all its relaxations
+abbrev pub AreRelaxationsAt : SearchState → ℕ → List Label → Type 0
+AreRelaxationsAt state i relaxations =
+    AreRelaxations state.ground.graph state.ground.request state.ground.low (bound_in state) state.labels i relaxations
+
+-- the label was relaxed over the edge, if that can carry it
+abbrev pub IsRelaxedOn : SearchState → ℕ → Edge → SearchState → Type 0
+IsRelaxedOn before i edge after =
+    RelaxesOn before.ground.graph before.ground.request before.ground.low before.ground.upper_bound before.labels i
+    after.labels after.best edge
+
+-- no usable walk is better than the best
+abbrev pub IsFinished : SearchState → Type 0
+IsFinished state =
+    (walk : List Edge) → IsUsable (edges state.ground.graph) state.ground.request walk →
+    IsNoBetter state.ground.graph state.ground.request state.labels state.ground.upper_bound state.best walk
+
+-- the label was relaxed over all edges into its node
+abbrev pub IsLeftAt : SearchState → ℕ → SearchState → Type 0
+IsLeftAt before i after =
+    RelaxesAll before.ground.graph before.ground.request before.ground.low before.ground.upper_bound before.labels i
+    after.labels after.best
+
+-- a new search over the graph for the request
+pub record IsBegun (graph : Graph) (request : NumberedRequest) (state : SearchState) : Type 0 where
+  pub graph_is : state.ground.graph ≡ graph
+  pub request_is : state.ground.request ≡ request
+  pub upper_bound : IsUpperBound (edges state.ground.graph) state.ground.request state.ground.upper_bound
