@@ -1,11 +1,9 @@
 //! Scripts and lines as long as they may be, and longer.
 
-use super::messages::SCID;
 use lgm_graph::Known;
 use lgm_par::Open;
 use lgm_script::MemorySink;
 use lgm_server::{Counts, RunFault};
-use lgm_test_scripts::{CHAIN, spelled};
 use std::alloc::{AllocError, Global};
 use std::random::RandomSource;
 use std::test::Fail;
@@ -54,46 +52,5 @@ fn longest_line(rt: HostRuntime) -> Result<(), Fail> {
     let (counts, writer) = ended(&rt, rt.alloc(), script.as_slice());
     assert_eq!(rt; counts.err(), Some(RunFault::LineTooLong));
     assert_eq!(rt; writer.taken(), b"1 commit 0\n".as_slice());
-    Ok(())
-}
-
-/// An announcement with this many digits 0 after its fields, between the texts before and after it.
-fn longer(
-    alloc: Global,
-    front: &str,
-    message: &str,
-    digits: usize,
-    rest: &str,
-) -> Result<Vec<u8>, AllocError> {
-    let zeros = vec![in alloc; b'0'; digits]?;
-    let mut text = Vec::from_slice(alloc, front.as_bytes())?;
-    text.extend_from_slice(message.as_bytes())?;
-    text.extend_from_slice(zeros.as_slice())?;
-    text.extend_from_slice(rest.as_bytes())?;
-    Ok(text)
-}
-
-/// A message has at most 65,535 bytes. The longest is accepted, and sent whole.
-#[test]
-fn longest_message(rt: HostRuntime) -> Result<(), Fail> {
-    let alloc = rt.alloc();
-    let message = spelled(alloc, "ca(600000x1x0,A,B)")?;
-    let lines = format!(in alloc; " all 100000\ncommit\nq 0105{CHAIN}000900{SCID}\n")?;
-    let script = longer(alloc, "m ", &message, 2 * 65_103, &lines)?;
-    let (counts, writer) = ended(&rt, alloc, script.as_slice());
-    assert!(rt; counts.is_ok());
-    let end = format!(in alloc; "\n3 0106{CHAIN}01\n")?;
-    let want = longer(
-        alloc,
-        "1 accepted\n2 commit 1\n3 ",
-        &message,
-        2 * 65_103,
-        &end,
-    )?;
-    assert_eq!(rt; writer.taken(), want.as_slice());
-    let script = longer(alloc, "m ", &message, 2 * 65_104, &lines)?;
-    let (counts, writer) = ended(&rt, alloc, script.as_slice());
-    assert!(rt; counts.is_ok());
-    assert!(rt; writer.taken().starts_with(b"1 malformed\n2 commit 0\n"));
     Ok(())
 }

@@ -29,17 +29,17 @@ const TEXT: &str = "1 accepted\n\
     10 hop 1x0x0 [13 020203e8 04030aae60 0608 0000030000000000]\n\
     10 hop 3x0x0 [2d 020203e8 04030aae60 0822 S 03e8]\n";
 
-/// The items are shared by two workers, and so are the two nodes before the payee: both times the first piece is
-/// delayed until the second has begun. The payee itself is a piece alone.
+/// The items are shared by two workers, and so are the two nodes before the payee, whose first piece is delayed until
+/// the second has begun. The payment is a piece alone, and so is the payee.
 #[test]
 fn lone_payment(rt: HostRuntime) -> Result<(), Fail> {
     let alloc = rt.alloc();
     let (script, text) = (spelled(alloc, SCRIPT)?, spelled(alloc, TEXT)?);
-    let gate = counter(1);
+    let gate = counter(2);
     let written = answered(&rt, alloc, script.as_bytes(), 2, &gate)?;
     assert_eq!(rt; written.as_slice(), text.as_bytes());
     assert!(rt; gate.went_on(), "ended at the limit");
-    assert_eq!(rt; gate.of_piece(0), 3);
+    assert_eq!(rt; gate.of_piece(0), 4);
     assert_eq!(rt; gate.of_piece(1), 2);
     Ok(())
 }

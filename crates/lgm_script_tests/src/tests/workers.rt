@@ -88,22 +88,6 @@ fn announcements(alloc: Global, scids: &[&str]) -> Result<String, AllocError> {
     Ok(script)
 }
 
-/// Three items are three pieces of 64 workers.
-#[test]
-fn as_many_pieces_as_lines(rt: HostRuntime) -> Result<(), Fail> {
-    let alloc = rt.alloc();
-    let (first, second) = ("600000x1x0", "600000x2x0");
-    let script = announcements(alloc, &[first, first, second])?;
-    let gate = counter(255);
-    let text = answered(&rt, alloc, script.as_bytes(), 64, &gate)?;
-    assert_eq!(rt;
-        text.as_slice(),
-        b"1 accepted\n2 known\n3 accepted\n".as_slice()
-    );
-    assert_eq!(rt; gate.passes.load(Ordering::SeqCst), 0x0001_0101);
-    Ok(())
-}
-
 /// Of two lines the first is delayed until the second has begun, each by a worker of its own.
 fn assert_side_by_side<Rt: Abort + Threads + Sync + RandomSource>(
     rt: &Rt,
