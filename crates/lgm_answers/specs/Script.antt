@@ -58,7 +58,7 @@ unfoldable pub filters_of : ChainHash → List Command → List PeerFilter
 filters_of chain asked = filters_from (filter_of chain asked) 0 1000
 
 -- the state on which a request is answered
-pub record State : Type 0 where
+pub record ScriptState : Type 0 where
   -- the known feature bits of nodes, or none if all are known
   pub known : Option (List ℕ)
   -- the rows of all accepted items
@@ -71,7 +71,7 @@ pub record State : Type 0 where
   pub filters : List PeerFilter
 
 -- the state after these requests
-abbrev pub state_of : ChainHash → Option (List ℕ) → List Command → State
+abbrev pub state_of : ChainHash → Option (List ℕ) → List Command → ScriptState
 state_of chain known asked = record {
   known = known;
   rows = fold (history_of chain (items_of asked));
@@ -83,7 +83,7 @@ state_of chain known asked = record {
 -- ---- the text for them
 
 -- the text for a request, for the line with this number
-abbrev pub text_for : ChainHash → ℕ → State → Command → List ℕ
+abbrev pub text_for : ChainHash → ℕ → ScriptState → Command → List ℕ
 text_for chain number state requests.Quiet = []
 text_for chain number state requests.Bad = word_line number (codes "bad")
 text_for chain number state (requests.Offer item) =

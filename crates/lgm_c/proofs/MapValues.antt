@@ -11,7 +11,7 @@ use denote.Steps.{nothing}
 use denote.Struct.Struct.{within}
 use denote.Struct.Owning.{shape}
 use Rattle.std.specs.declared.option.Option.{Option}
-use Rattle.lgm_c.specs.contracts.state.State as held
+use Rattle.lgm_c.specs.contracts.chain_map.ChainMap as held
 use Rattle.lgm_c.specs.contracts.handle.Handle as handle
 use Rattle.lgm_c.specs.inner.Handle.{owns_box}
 use Rattle.lgm_c.proofs.Values.{one}

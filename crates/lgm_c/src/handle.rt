@@ -3,8 +3,8 @@
 ghost use Rattle.std.specs.Prelude.{◌≡◌, Some, None, Option, is_some, true};
 ghost use Rattle.lgm_c.specs.MapState.{MapState};
 
+use crate::chain_map::ChainMap;
 use crate::raw_box::RawBox;
-use crate::state::State;
 use std::alloc::Global;
 use std::marker::Model;
 
@@ -24,7 +24,7 @@ impl Model for Handle {
 
 impl Handle {
     /// The pointer to a box.
-    pub(crate) fn of(loose: RawBox<State, Global>) -> Handle
+    pub(crate) fn of(loose: RawBox<ChainMap, Global>) -> Handle
         ensures { result.value ≡ Some loose.value }
     {
         let RawBox { at, alloc: _ } = loose;
@@ -41,13 +41,13 @@ impl Handle {
     }
 
     /// The box that a pointer that isn't null points to.
-    pub(crate) fn into_loose(self, alloc: Global) -> RawBox<State, Global>
+    pub(crate) fn into_loose(self, alloc: Global) -> RawBox<ChainMap, Global>
         requires { is_some self.value ≡ true }
         ensures { Some result.value ≡ self.value }
     {
         let Handle { at } = self;
         RawBox {
-            at: at as *mut State,
+            at: at as *mut ChainMap,
             alloc,
         }
     }

@@ -10,6 +10,7 @@
 
 mod attempt;
 mod boxes;
+mod chain_map;
 mod changing_map;
 mod current;
 mod edition;
@@ -29,7 +30,6 @@ mod queries;
 mod raw_box;
 mod routes;
 mod search;
-mod state;
 mod stored_messages;
 #[cfg(test)]
 mod tests;

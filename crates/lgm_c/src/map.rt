@@ -3,9 +3,9 @@
 ghost use Rattle.std.specs.Prelude.{◌≡◌, Some, None, is_some};
 ghost use Rattle.std.specs.Option.{option_map};
 
+use crate::chain_map::ChainMap;
 use crate::handle::Handle;
 use crate::raw_box::RawBox;
-use crate::state::State;
 use std::alloc::Global;
 use std::mem::replace;
 
@@ -30,7 +30,7 @@ impl LgmMap {
     }
 
     /// An open handle of a map.
-    pub(crate) fn open(inner: Box<State>) -> LgmMap
+    pub(crate) fn open(inner: Box<ChainMap>) -> LgmMap
         ensures { result.handle.value ≡ Some inner.value }
     {
         LgmMap {
@@ -47,7 +47,7 @@ impl LgmMap {
     }
 
     /// Takes the map out, if there is one, and closes the handle.
-    pub(crate) fn take(&mut self, alloc: Global) -> Option<Box<State>>
+    pub(crate) fn take(&mut self, alloc: Global) -> Option<Box<ChainMap>>
         ensures left { self.new.handle.value ≡ None }
         ensures taken { option_map (λ inner. inner.value) result ≡ self.old.handle.value }
     {

@@ -7,10 +7,10 @@ ghost use Rattle.lgm_c.specs.MapState.{opened};
 ghost use Rattle.lgm_c.specs.Opening.{known_of, Opens};
 
 use crate::boxes::boxed;
+use crate::chain_map::ChainMap;
 use crate::evidence::evidence;
 use crate::fault::{Fault, status};
 use crate::map::{LgmMap, with_state};
-use crate::state::State;
 use lgm_gossip::{ChainHash, Point, Scid};
 use lgm_graph::Known;
 use lgm_store::Seed;
@@ -33,12 +33,12 @@ fn new_map(
     all_known: bool,
     known: &[u8],
     seed: &[u8; 16],
-) -> Result<Box<State>, AllocError>
+) -> Result<Box<ChainMap>, AllocError>
     ensures { IfOk result (λ inner.
         inner.value ≡ opened chain.now (known_of all_known known.now)) }
 {
     let known = known_bits(alloc, all_known, known)?;
-    let inner = State::new(alloc, ChainHash(*chain), known, Seed::new(*seed))?;
+    let inner = ChainMap::new(alloc, ChainHash(*chain), known, Seed::new(*seed))?;
     boxed(alloc, inner)
 }
 

@@ -6,13 +6,16 @@ ghost use Rattle.lgm_c.specs.Opening.{Opens};
 ghost use Rattle.lgm_c.specs.Published.{Publishes, SharesIf, Shares, version_of};
 
 use crate::boxes::boxed;
+use crate::chain_map::ChainMap;
 use crate::fault::Fault;
 use crate::map::{LgmMap, with_state};
-use crate::state::State;
 use std::alloc::{AllocError, Global};
 
 /// A box for a handle, unless memory ran out.
-fn state_boxed(alloc: Global, state: Result<State, AllocError>) -> Result<Box<State>, AllocError>
+fn state_boxed(
+    alloc: Global,
+    state: Result<ChainMap, AllocError>,
+) -> Result<Box<ChainMap>, AllocError>
     ensures { (value : MapState) → IfOk state (λ found. found ≡ value)
         → IfOk result (λ found. found.value ≡ value) }
 {
@@ -20,7 +23,7 @@ fn state_boxed(alloc: Global, state: Result<State, AllocError>) -> Result<Box<St
 }
 
 /// Opens a closed handle, unless memory ran out.
-fn hand(alloc: Global, state: Result<State, AllocError>, to: &mut LgmMap) -> u32
+fn hand(alloc: Global, state: Result<ChainMap, AllocError>, to: &mut LgmMap) -> u32
     requires { to.old.handle.value ≡ None }
     ensures { (value : MapState) → IfOk state (λ found. found ≡ value)
         → Opens value result to.old.handle.value to.new.handle.value }
@@ -35,7 +38,7 @@ fn hand(alloc: Global, state: Result<State, AllocError>, to: &mut LgmMap) -> u32
 }
 
 /// Opens a closed handle with a map as it is now, for good.
-fn publish(alloc: Global, state: &mut State, to: &mut LgmMap) -> u32
+fn publish(alloc: Global, state: &mut ChainMap, to: &mut LgmMap) -> u32
     ensures same { state.new ≡ state.old }
     ensures published { Opens (published state.old) result to.old.handle.value to.new.handle.value }
 {
@@ -56,7 +59,7 @@ pub extern "C" fn lgm_publish(alloc: Global, map: &mut LgmMap, published: &mut L
 }
 
 /// Opens a closed handle with a map, if that is a published one.
-fn share(alloc: Global, state: &mut State, to: &mut LgmMap) -> u32
+fn share(alloc: Global, state: &mut ChainMap, to: &mut LgmMap) -> u32
     ensures same { state.new ≡ state.old }
     ensures shared { SharesIf state.old.is_published state.old result to.old.handle.value to.new.handle.value }
 {

@@ -10,10 +10,10 @@ ghost use Rattle.lgm_c.specs.Status.{status_of};
 ghost use Rattle.lgm_c.specs.Writing.{all_framed, Answers, WritesAnswer, buffer};
 ghost use Rattle.lgm_c.specs.inner.Framing.{MayWrite};
 
+use crate::chain_map::ChainMap;
 use crate::fault::{Fault, status};
 use crate::frames::{write_backlog, write_replies};
 use crate::map::{LgmMap, with_state};
-use crate::state::State;
 use lgm_gossip::ChainHash;
 use lgm_query::{Filter, Query, news, read_filter, read_query};
 use lgm_store::Map;
@@ -74,7 +74,7 @@ fn answer_filter(
 /// Answers the filter that the bytes encode with what has come to pass since the mark.
 fn answer_news(
     alloc: Global,
-    inner: &mut State,
+    inner: &mut ChainMap,
     bytes: &[u8],
     room: &mut [u8],
     needed: &mut usize,
@@ -172,8 +172,8 @@ fn write_between(
 /// Answers the filter that the bytes encode with what passes in a map and didn't in an earlier one.
 fn answer_between(
     alloc: Global,
-    before: &State,
-    after: &State,
+    before: &ChainMap,
+    after: &ChainMap,
     bytes: &[u8],
     room: &mut [u8],
     needed: &mut usize,
@@ -197,7 +197,7 @@ fn answer_between(
 /// The same with what a handle has now.
 fn answer_behind(
     alloc: Global,
-    before: &State,
+    before: &ChainMap,
     after: &mut LgmMap,
     bytes: &[u8],
     room: &mut [u8],

@@ -11,10 +11,10 @@ ghost use Rattle.lgm_graph.specs.declared.route.Hop.{Hop as AHop};
 ghost use Rattle.lgm_c.specs.Status.{if_open, number_of, status_of};
 
 use crate::attempt::{Attempt, LgmEdge, LgmLimit, LgmPoint};
+use crate::chain_map::ChainMap;
 use crate::fault::{Fault, status};
 use crate::map::{LgmMap, with_state};
 use crate::output::copy_in_front;
-use crate::state::State;
 use lgm_gossip::{Bytes, Point};
 use lgm_graph::overlays_are_lawful;
 use lgm_payload::build;
@@ -177,7 +177,7 @@ fn write_found(
 }
 
 /// The best route of a payment over the map alone, at any delay.
-fn route(alloc: Global, state: &mut State, payment: &LgmPayment) -> Result<Route, Fault>
+fn route(alloc: Global, state: &mut ChainMap, payment: &LgmPayment) -> Result<Route, Fault>
     ensures same { state.new ≡ state.old }
     ensures route { GivesIf (IsSearched (route_asked payment.now state.old.known state.old.rows)) Fault.NoMemory
         (λ route. route) result (route_asked payment.now state.old.known state.old.rows) }
@@ -212,7 +212,7 @@ pub extern "C" fn lgm_route(
 /// The best route of a payment over what its payer knows beside the map, within a delay.
 fn route_over(
     alloc: Global,
-    state: &mut State,
+    state: &mut ChainMap,
     payment: &LgmPayment,
     edges: &[LgmEdge],
     limits: &[LgmLimit],

@@ -38,6 +38,14 @@ impl<T> Sequence<T> {
     {
         self.items.as_slice()
     }
+
+    /// The vector, without a copy.
+    pub fn into_vec(self) -> Vec<T>
+        ensures { result.items ≡ self }
+    {
+        let Sequence { items } = self;
+        items
+    }
 }
 
 /// A list of bytes: a field of variable length, or a whole message.

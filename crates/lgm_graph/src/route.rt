@@ -68,6 +68,16 @@ impl Route {
         self.hops.as_slice()
     }
 
+    /// The vector of its hops, without a copy. It has 1 to 20.
+    pub fn into_vec(self) -> Vec<Hop>
+        ensures hops { result.items ≡ self }
+        ensures some { 1 ≤ length result.items }
+        ensures few { length result.items ≤ 20 }
+    {
+        let Route { hops } = self;
+        hops
+    }
+
     /// What the payer sends, in msat: the amount over the first channel.
     pub fn sent(&self) -> u64
         ensures { result ≡ sent self.now }

@@ -1,8 +1,8 @@
 mod Items
 mod Answers
 mod Reports
-pub mod Dealing
-pub mod Noting
+pub mod DealtPaymentLaws
+pub mod RequestedLinesLaws
 pub mod Slots
 pub mod Scripts
 pub mod WholeLines

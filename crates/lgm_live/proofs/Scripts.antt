@@ -35,7 +35,7 @@ use Rattle.lgm_live.specs.Answers.{IsAnsweredBy, AreAnsweredBy}
 use Rattle.lgm_live.specs.Batches.{items_of as all_items, ends_behind}
 use Rattle.lgm_live.specs.Running.{IsReportOn}
 use Rattle.lgm_live.specs.Text.{same_hop, same_answer, replay_word, AreSame}
-use Rattle.lgm_live.proofs.Dealing.{dealt_in_turn}
+use Rattle.lgm_live.proofs.DealtPaymentLaws.{dealt_in_turn}
 use Rattle.lgm_live.proofs.Slots.{IsFull}
 
 -- ---- an answer is the same as itself

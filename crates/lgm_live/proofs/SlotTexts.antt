@@ -12,7 +12,7 @@ use Rattle.lgm_script.proofs.WrittenTextLaws.{tells_both, tells_part_behind, tel
 use Rattle.lgm_live.specs.declared.report.LiveReport.{LiveReport}
 use Rattle.lgm_live.specs.declared.parsed_script.LineAnswer.{LineAnswer}
 use Rattle.lgm_live.specs.declared.parsed_script.LineAnswer.TheVariants as line_answers
-use Rattle.lgm_live.specs.declared.write_answers.Place.{Place}
+use Rattle.lgm_live.specs.declared.write_answers.ReportPlace.{ReportPlace}
 use Rattle.lgm_live.specs.Text.{at_line}
 use Rattle.lgm_live.specs.inner.Telling.{is_item, is_end, is_payment, place_behind, place_passed, slot_text, slots_before}
 
@@ -31,7 +31,7 @@ count_push p xs x = omega (arith, sum_by-append (λ x. cond (p x) 1 0) xs (x ∷
 place_push : (before : List LineAnswer) (line_answer : LineAnswer) → place_passed (place_behind before) line_answer ≡ place_behind (before ++ line_answer ∷ [])
 place_push before line_answer = rw (count_push is_item before line_answer, count_push is_end before line_answer, count_push is_payment before line_answer) (by_slot line_answer)
   where
-    same : (place : Place) → place ≡ record { items = place.items + 0; ends = place.ends + 0; payments = place.payments + 0 }
+    same : (place : ReportPlace) → place ≡ record { items = place.items + 0; ends = place.ends + 0; payments = place.payments + 0 }
     same place =
         let items : place.items + 0 ≡ place.items = omega arith in
         let ends : place.ends + 0 ≡ place.ends = omega arith in
@@ -45,10 +45,10 @@ place_push before line_answer = rw (count_push is_item before line_answer, count
     }
     by_slot line_answers.Quiet = same (place_behind before)
     by_slot line_answers.Bad = same (place_behind before)
-    by_slot line_answers.Item = ap (λ (place : Place). record place { items = count_by is_item before + 1 }) (same (place_behind before))
-    by_slot line_answers.Commit = ap (λ (place : Place). record place { ends = count_by is_end before + 1 }) (same (place_behind before))
+    by_slot line_answers.Item = ap (λ (place : ReportPlace). record place { items = count_by is_item before + 1 }) (same (place_behind before))
+    by_slot line_answers.Commit = ap (λ (place : ReportPlace). record place { ends = count_by is_end before + 1 }) (same (place_behind before))
     by_slot line_answers.NotLive = same (place_behind before)
-    by_slot (line_answers.Payment secret) = ap (λ (place : Place). record place { payments = count_by is_payment before + 1 }) (same (place_behind before))
+    by_slot (line_answers.Payment secret) = ap (λ (place : ReportPlace). record place { payments = count_by is_payment before + 1 }) (same (place_behind before))
 
 pub place_more : (all : List LineAnswer) (k : ℕ) → k < length all
     → place_passed (place_behind (take k all)) (get_or all k line_answers.Quiet) ≡ place_behind (take (k + 1) all)
@@ -90,11 +90,11 @@ text_behind workers report all k (suc n) =
     )
 
 -- the same, by the number of line answers before and the place after them
-pub text_here : (workers : ℕ) (report : LiveReport) (all : List LineAnswer) (k number : ℕ) (place : Place) → number ≡ k → place ≡ place_behind (take k all)
+pub text_here : (workers : ℕ) (report : LiveReport) (all : List LineAnswer) (k number : ℕ) (place : ReportPlace) → number ≡ k → place ≡ place_behind (take k all)
     → slot_text workers report (number + 1) place (get_or all k line_answers.Quiet) ≡ text_at workers report all k
 text_here workers report all k number place number_is place_is =
     ap (λ (n : ℕ). slot_text workers report (n + 1) place (get_or all k line_answers.Quiet)) number_is
-    ∙ ap (λ (p : Place). slot_text workers report (k + 1) p (get_or all k line_answers.Quiet)) place_is
+    ∙ ap (λ (p : ReportPlace). slot_text workers report (k + 1) p (get_or all k line_answers.Quiet)) place_is
 
 -- one more line answer was written
 pub one_more : (workers : ℕ) (report : LiveReport) (all : List LineAnswer) (k : ℕ) (old mid new : OutputState)

@@ -17,21 +17,21 @@ use std::alloc::Global;
 
 /// The indices of the next outcome, end and answer of a report.
 #[derive(Clone, Copy)]
-pub(crate) struct Place {
+pub(crate) struct ReportPlace {
     items: usize,
     ends: usize,
     payments: usize,
 }
 
-impl Place {
+impl ReportPlace {
     /// The indices after a line's answer.
-    fn pass(self, line_answer: LineAnswer) -> Place
+    fn pass(self, line_answer: LineAnswer) -> ReportPlace
         requires items { self.items + 1 < 2 ^ 64 }
         requires ends { self.ends + 1 < 2 ^ 64 }
         requires payments { self.payments + 1 < 2 ^ 64 }
         ensures { result ≡ place_passed self line_answer }
     {
-        let Place {
+        let ReportPlace {
             mut items,
             mut ends,
             mut payments,
@@ -42,7 +42,7 @@ impl Place {
             LineAnswer::Payment(_) => payments += 1,
             _ => {}
         }
-        Place {
+        ReportPlace {
             items,
             ends,
             payments,
@@ -82,7 +82,7 @@ fn write_line_answer<W: Sink>(
     workers: usize,
     number: u64,
     line_answer: LineAnswer,
-    place: Place,
+    place: ReportPlace,
     report: &LiveReport,
     output: &mut Output<'_, W>,
 ) -> Result<(), SendFault>
@@ -123,7 +123,7 @@ fn write_line_answers<W: Sink>(
         (slots_before workers report.now line_answers.now (length line_answers.now)) result }
 {
     let mut number = 0;
-    let mut place = Place {
+    let mut place = ReportPlace {
         items: 0,
         ends: 0,
         payments: 0,

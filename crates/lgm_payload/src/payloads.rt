@@ -32,4 +32,12 @@ impl Payloads {
     {
         self.items.as_slice()
     }
+
+    /// The vector, without a copy.
+    pub fn into_vec(self) -> Vec<Bytes>
+        ensures { result.items ≡ self }
+    {
+        let Payloads { items } = self;
+        items
+    }
 }

@@ -6,29 +6,29 @@ use Rattle.std.proofs.lemmas.Result.{IfOk-weaker}
 use Rattle.std.specs.List.{AllByRecursion, AllZip}
 use Rattle.std.specs.Result.{result_err}
 use Rattle.lgm_wire.specs.declared.chain_hash.ChainHash.{ChainHash}
-use Rattle.lgm_script.specs.declared.group.Kind.{Kind}
-use Rattle.lgm_script.specs.declared.group.Kind.TheVariants as kinds
+use Rattle.lgm_script.specs.declared.group.LineKind.{LineKind}
+use Rattle.lgm_script.specs.declared.group.LineKind.TheVariants as kinds
 use Rattle.lgm_script.specs.declared.command.Command.{Command}
 use Rattle.lgm_script.specs.declared.command.Command.TheVariants as requests
 use Rattle.lgm_script.specs.Groups.{AreAlike, IsOfKind}
 use Rattle.lgm_script.specs.Command.{command_of}
 use Rattle.lgm_run.specs.declared.checked_item.CheckedItem.{CheckedItem}
 use Rattle.lgm_answers.specs.Answer.{outcome_text}
-use Rattle.lgm_answers.specs.Script.{State, text_for}
+use Rattle.lgm_answers.specs.Script.{ScriptState, text_for}
 use Rattle.lgm_run.specs.inner.Steps.{state_behind, state_after, state_from, text_from, state_alone, text_alone}
 use Rattle.lgm_run.specs.inner.CheckedItem.{offered_in, state_by, offered_text}
 use Rattle.lgm_run.specs.inner.Questions.{asked_in, question_text, filters_after, filters_behind, questions_text}
-use Rattle.lgm_run.proofs.Keeping.{outcome_checked}
+use Rattle.lgm_run.proofs.ItemCheckLaws.{outcome_checked}
 
 -- ---- items
 
-item_leaves : (chain : ChainHash) (state : State) (request : Command) → IsOfKind kinds.Item request
+item_leaves : (chain : ChainHash) (state : ScriptState) (request : Command) → IsOfKind kinds.Item request
     → state_by state (offered_in chain request) ≡ state_after chain state request
 item_leaves chain state requests.Bad kind = refl
 item_leaves chain state (requests.Offer item) kind = ap (state_behind state) (sym (outcome_checked chain state.rows item))
 item_leaves chain state _ kind = absurd kind
 
-item_is_told : (chain : ChainHash) (number : ℕ) (state : State) (request : Command) → IsOfKind kinds.Item
+item_is_told : (chain : ChainHash) (number : ℕ) (state : ScriptState) (request : Command) → IsOfKind kinds.Item
     request → offered_text number state.rows (offered_in chain request) ≡ text_for chain number state request
 item_is_told chain number state requests.Bad kind = refl
 item_is_told chain number state (requests.Offer item) kind =
@@ -37,8 +37,8 @@ item_is_told chain number state _ kind = absurd kind
 
 -- a line's item after its check: the request is to offer it
 pub record IsItemOf (chain : ChainHash) (request : Command) (item : Option CheckedItem) : Type 0 where
-  pub leaves : (state : State) → state_by state item ≡ state_after chain state request
-  pub is_told : (number : ℕ) (state : State) → offered_text number state.rows item ≡ text_for chain number
+  pub leaves : (state : ScriptState) → state_by state item ≡ state_after chain state request
+  pub is_told : (number : ℕ) (state : ScriptState) → offered_text number state.rows item ≡ text_for chain number
       state request
 
 item_of : (chain : ChainHash) (request : Command) (item : Option CheckedItem) → IsOfKind kinds.Item request
@@ -66,14 +66,14 @@ items_of chain (request ∷ asked) (item ∷ items) kind all = (
 
 -- ---- questions
 
-question_leaves : (chain : ChainHash) (state : State) (request : Command) → IsOfKind kinds.Question request
+question_leaves : (chain : ChainHash) (state : ScriptState) (request : Command) → IsOfKind kinds.Question request
     → record state { filters = filters_after chain state.filters request } ≡ state_after chain state request
 question_leaves chain state requests.Quiet kind = absurd kind
 question_leaves chain state requests.Commit kind = absurd kind
 question_leaves chain state (requests.Offer item) kind = absurd kind
 question_leaves chain state _ kind = refl
 
-question_is_told : (chain : ChainHash) (number : ℕ) (state : State) (request : Command)
+question_is_told : (chain : ChainHash) (number : ℕ) (state : ScriptState) (request : Command)
     → IsOfKind kinds.Question request
     → question_text chain state.known state.committed number request ≡ text_for chain number state request
 question_is_told chain number state requests.Quiet kind = absurd kind
@@ -82,14 +82,14 @@ question_is_told chain number state (requests.Offer item) kind = absurd kind
 question_is_told chain number state _ kind = refl
 
 -- several
-pub questions_leave : (chain : ChainHash) (state : State) (asked : List Command) → AllByRecursion (IsOfKind kinds.Question) asked
+pub questions_leave : (chain : ChainHash) (state : ScriptState) (asked : List Command) → AllByRecursion (IsOfKind kinds.Question) asked
     → record state { filters = filters_behind chain state.filters asked } ≡ state_from chain state asked
 questions_leave chain state [] kind = refl
 questions_leave chain state (request ∷ asked) kind =
     questions_leave chain (record state { filters = filters_after chain state.filters request }) asked kind.1
     ∙ ap (λ s. state_from chain s asked) (question_leaves chain state request kind.0)
 
-pub questions_are_told : (chain : ChainHash) (number : ℕ) (state : State) (asked : List Command) → AllByRecursion (IsOfKind kinds.Question) asked
+pub questions_are_told : (chain : ChainHash) (number : ℕ) (state : ScriptState) (asked : List Command) → AllByRecursion (IsOfKind kinds.Question) asked
     → questions_text chain state.known state.committed number state.filters asked ≡ text_from chain number state asked
 questions_are_told chain number state [] kind = refl
 questions_are_told chain number state (request ∷ asked) kind =
@@ -101,14 +101,14 @@ questions_are_told chain number state (request ∷ asked) kind =
 
 -- ---- lines that are alone in their group
 
-alone_leaves : (chain : ChainHash) (state : State) (request : Command) → IsOfKind kinds.Other request
+alone_leaves : (chain : ChainHash) (state : ScriptState) (request : Command) → IsOfKind kinds.Other request
     → state_alone state request ≡ state_after chain state request
 alone_leaves chain state requests.Quiet kind = refl
 alone_leaves chain state requests.Bad kind = refl
 alone_leaves chain state requests.Commit kind = refl
 alone_leaves chain state _ kind = absurd kind
 
-alone_is_told : (chain : ChainHash) (number : ℕ) (state : State) (request : Command)
+alone_is_told : (chain : ChainHash) (number : ℕ) (state : ScriptState) (request : Command)
     → IsOfKind kinds.Other request → text_alone number state request ≡ text_for chain number state request
 alone_is_told chain number state requests.Quiet kind = refl
 alone_is_told chain number state requests.Bad kind = refl
@@ -123,7 +123,7 @@ asked_texts [] = refl
 asked_texts (line ∷ lines) = ap (λ asked. command_of line.now ∷ asked) (asked_texts lines)
 
 -- lines of a kind request what that kind can request
-kinds_of : (kind : Kind) (lines : List (Bor (List ℕ))) → AllByRecursion (λ line. IsOfKind kind
+kinds_of : (kind : LineKind) (lines : List (Bor (List ℕ))) → AllByRecursion (λ line. IsOfKind kind
     (command_of line)) (map (λ line. line.now) lines) → AllByRecursion (IsOfKind kind) (asked_in lines)
 kinds_of kind [] all = tt
 kinds_of kind (line ∷ lines) all = (all.0, kinds_of kind lines all.1)
@@ -135,7 +135,7 @@ asked_alone (line ∷ []) d one = refl
 asked_alone (line ∷ other ∷ lines) d one = absurd (omega (arith, one))
 
 -- the lines of a group request what its kind can request
-pub asked_as : {kind own : Kind} {lines items : List (Bor (List ℕ))}
+pub asked_as : {kind own : LineKind} {lines items : List (Bor (List ℕ))}
     → AreAlike kind (map (λ line. line.now) items)
     → kind ≡ own → lines ≡ items → AllByRecursion (IsOfKind own) (asked_in lines)
 asked_as {kind} {own} {lines} {items} alike is same =
@@ -148,7 +148,7 @@ pub record IsAlone (asked : List Command) (request : Command) : Type 0 where
   pub one : asked ≡ request ∷ []
   pub kind : IsOfKind kinds.Other request
 
-pub is_alone : {kind : Kind} {lines items : List (Bor (List ℕ))} (d : Bor (List ℕ))
+pub is_alone : {kind : LineKind} {lines items : List (Bor (List ℕ))} (d : Bor (List ℕ))
     → AreAlike kind (map (λ line. line.now) items)
     → kind ≡ kinds.Other → lines ≡ items → IsAlone (asked_in items) (command_of (get_or lines 0 d).now)
 is_alone {kind} {lines} {items} d alike is same =
@@ -159,9 +159,9 @@ is_alone {kind} {lines} {items} d alike is same =
     record { one = asked; kind = each.0 }
 
 -- the state after it, and its text
-module _ (chain : ChainHash) (number : ℕ) (state : State) {asked : List Command} {request : Command}
+module _ (chain : ChainHash) (number : ℕ) (state : ScriptState) {asked : List Command} {request : Command}
     (alone : IsAlone asked request) where
-  pub other_leaves : {T E : Type 0} (result : Result T E) (new : State) → OnOk result (new ≡ state_alone state request)
+  pub other_leaves : {T E : Type 0} (result : Result T E) (new : ScriptState) → OnOk result (new ≡ state_alone state request)
       → OnOk result (new ≡ state_from chain state asked)
   other_leaves result new is =
       subst (λ s. OnOk result (new ≡ s)) (alone_leaves chain state request alone.kind

@@ -1,12 +1,12 @@
-pub mod Keeping
+pub mod ItemCheckLaws
 pub mod Tables
-pub mod Turning
+pub mod TurnLaws
 mod Zips
 mod AlikeRequestLaws
-pub mod Stepping
+pub mod CommandStepLaws
 pub mod Progress
 mod Reached
-mod Stopping
-pub mod Ending
+mod AnsweredLinesLaws
+pub mod RunEndLaws
 mod MapLaws
 mod ChannelCountLaws

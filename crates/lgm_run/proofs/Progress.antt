@@ -23,15 +23,15 @@ use Rattle.lgm_script.proofs.FirstLineFeedLaws.{next_of}
 use Rattle.lgm_script.proofs.WrittenTextLaws.{tells_nothing, tells_both, some_behind}
 use Rattle.lgm_answers.specs.declared.run_fault.TheConstants.{MAX_LINES}
 use Rattle.lgm_answers.specs.Outcomes.{history_of}
-use Rattle.lgm_answers.specs.Script.{commands_of, items_of, State, state_of, text_for, text_at, text_before}
+use Rattle.lgm_answers.specs.Script.{commands_of, items_of, ScriptState, state_of, text_for, text_at, text_before}
 use Rattle.lgm_answers.proofs.Lines.{has_line}
 use Rattle.lgm_run.specs.inner.Steps.{opening, state_after, state_from, text_from}
 use Rattle.lgm_run.specs.inner.Progress.{AreNext, HaveAnswers, HaveBegun}
 use Rattle.lgm_run.specs.Running.{IsTold, IsAnswered, IsTooMany, IsTooLong, IsCutShort}
-use Rattle.lgm_run.proofs.Stepping.{opening_is, state_after-request}
+use Rattle.lgm_run.proofs.CommandStepLaws.{opening_is, state_after-request}
 
 -- k lines were read, this is left, and this is the state after them
-pub record IsAtLine (chain : ChainHash) (known : Option (List ℕ)) (script : List ℕ) (k : ℕ) (state : State) (rest : List ℕ) : Type 0 where
+pub record IsAtLine (chain : ChainHash) (known : Option (List ℕ)) (script : List ℕ) (k : ℕ) (state : ScriptState) (rest : List ℕ) : Type 0 where
   pub front : List ℕ
   pub parts : script ≡ front ++ rest
   pub left : lines_of rest ≡ drop k (lines_of script)
@@ -41,7 +41,7 @@ pub record IsAtLine (chain : ChainHash) (known : Option (List ℕ)) (script : Li
   pub state_is : state ≡ state_of chain known (take k (commands_of script))
 
 -- and they were answered
-pub record IsSoFar (chain : ChainHash) (known : Option (List ℕ)) (script : List ℕ) (k : ℕ) (state : State)
+pub record IsSoFar (chain : ChainHash) (known : Option (List ℕ)) (script : List ℕ) (k : ℕ) (state : ScriptState)
     (input : Option (List ℕ)) (old mid : OutputState) : Type 0 where
   pub rest : List ℕ
   pub input_is : input ≡ Some rest
@@ -49,11 +49,11 @@ pub record IsSoFar (chain : ChainHash) (known : Option (List ℕ)) (script : Lis
   pub text : Tells old mid (text_before chain known (commands_of script) k)
 
 -- if there is a script
-abbrev pub SoFar : ChainHash → Option (List ℕ) → Option (List ℕ) → ℕ → State → Option (List ℕ) → OutputState → OutputState → Type 0
+abbrev pub SoFar : ChainHash → Option (List ℕ) → Option (List ℕ) → ℕ → ScriptState → Option (List ℕ) → OutputState → OutputState → Type 0
 SoFar chain known script k state input old mid = IfSome script (λ s. IsSoFar chain known s k state input old mid)
 
 -- more lines were read, and their text follows
-record Steps (chain : ChainHash) (known : Option (List ℕ)) (script : List ℕ) (k n : ℕ) (state : State) (rest text : List ℕ) : Type 0 where
+record Steps (chain : ChainHash) (known : Option (List ℕ)) (script : List ℕ) (k n : ℕ) (state : ScriptState) (rest text : List ℕ) : Type 0 where
   pub at : IsAtLine chain known script n state rest
   pub text_is : text_before chain known (commands_of script) n ≡ text_before chain known (commands_of script) k ++ text
 
@@ -105,12 +105,12 @@ module _ (chain : ChainHash) (known : Option (List ℕ)) where
   unfolding text_before
   text_before-suc asked k = refl
 
-  text_is : (asked : List Command) (k : ℕ) (state : State) (request : Command) → state ≡ state_of chain known (take k asked)
+  text_is : (asked : List Command) (k : ℕ) (state : ScriptState) (request : Command) → state ≡ state_of chain known (take k asked)
       → get_or asked k requests.Quiet ≡ request → text_at chain known asked k ≡ text_for chain (k + 1) state request
   unfolding text_at
   text_is asked k state request s r = rw (s, ← r) refl
 
-  text_more : (asked : List Command) (k : ℕ) (state : State) (request : Command) → state ≡ state_of chain known (take k asked)
+  text_more : (asked : List Command) (k : ℕ) (state : ScriptState) (request : Command) → state ≡ state_of chain known (take k asked)
       → get_or asked k requests.Quiet ≡ request
       → text_before chain known asked (k + 1) ≡ text_before chain known asked k ++ text_for chain (k + 1) state request
   text_more asked k state request s r =
@@ -125,7 +125,7 @@ record NextOf (script : List ℕ) (k len : ℕ) (buffered left front : List ℕ)
   pub read : (k + 1 ≤ length (filter ends_line (front ++ take (len + 1) buffered))) ⊎ (drop (len + 1) buffered ++ left ≡ [])
 
 module _ (chain : ChainHash) (known : Option (List ℕ)) (script : List ℕ) where
-  next_line_of : (k len : ℕ) (state : State) (buffered left : List ℕ) → (at : IsAtLine chain known script k state (buffered ++ left))
+  next_line_of : (k len : ℕ) (state : ScriptState) (buffered left : List ℕ) → (at : IsAtLine chain known script k state (buffered ++ left))
       → IsFirstLine buffered (Some left) len → NextOf script k len buffered left at.front
   next_line_of k len state buffered left at first =
       let next = next_of buffered left len first in
@@ -152,7 +152,7 @@ module _ (chain : ChainHash) (known : Option (List ℕ)) (script : List ℕ) whe
       }
 
   -- one line
-  line_step : (k : ℕ) (state : State) (buffered left line : List ℕ) → IsAtLine chain known script k state (buffered ++ left)
+  line_step : (k : ℕ) (state : ScriptState) (buffered left line : List ℕ) → IsAtLine chain known script k state (buffered ++ left)
       → line ≡ take (length line) buffered → IsFirstLine buffered (Some left) (length line) → length line ≤ MAX_LINE
       → Steps chain known script k (k + 1) (state_after chain state (command_of line))
       (drop (length line + 1) buffered ++ left) (text_for chain (k + 1) state (command_of line))
@@ -177,7 +177,7 @@ module _ (chain : ChainHash) (known : Option (List ℕ)) (script : List ℕ) whe
               subst (λ (ls : List (List ℕ)). AllByRecursion (λ l. length l ≤ MAX_LINE) ls) (sym stand.front)
               (each-push (λ l. length l ≤ MAX_LINE) (take k (lines_of script)) line at.short small);
           state_is =
-              ap (λ (x : State). state_after chain x (command_of line)) at.state_is
+              ap (λ (x : ScriptState). state_after chain x (command_of line)) at.state_is
               ∙ state_after-request chain known (take k asked) (command_of line) (request_is_lawful line)
               ∙ ap (state_of chain known) (sym of.front);
         };
@@ -185,7 +185,7 @@ module _ (chain : ChainHash) (known : Option (List ℕ)) (script : List ℕ) whe
       }
 
   -- several
-  lines_step : (k : ℕ) (state : State) (buffered left rest : List ℕ) (lines : List (List ℕ))
+  lines_step : (k : ℕ) (state : ScriptState) (buffered left rest : List ℕ) (lines : List (List ℕ))
       → IsAtLine chain known script k state (buffered ++ left)
       → AreFirstLines buffered (Some left) lines rest → AllByRecursion (λ line. length line ≤ MAX_LINE) lines
       → Steps chain known script k (k + length lines) (state_from chain state (map command_of lines))
@@ -212,12 +212,12 @@ module _ (chain : ChainHash) (known : Option (List ℕ)) (script : List ℕ) whe
 
 -- ---- what was answered so far
 
-told_of : {chain : ChainHash} {known : Option (List ℕ)} {script : List ℕ} {k : ℕ} {state : State} {input : Option (List ℕ)}
+told_of : {chain : ChainHash} {known : Option (List ℕ)} {script : List ℕ} {k : ℕ} {state : ScriptState} {input : Option (List ℕ)}
     {old mid : OutputState}
     → IsSoFar chain known script k state input old mid → IsTold chain known (Tells old mid) script k
 told_of at = record { few = at.at.few; short = at.at.short; text = at.text }
 
-module _ (chain : ChainHash) (known : Option (List ℕ)) (script : Option (List ℕ)) (k : ℕ) (state : State)
+module _ (chain : ChainHash) (known : Option (List ℕ)) (script : Option (List ℕ)) (k : ℕ) (state : ScriptState)
     (input : Option (List ℕ)) (old mid : OutputState) (so_far : SoFar chain known script k state input old mid) where
   -- nothing was written beyond the text so far
   pub told_on : (new : OutputState) → Tells mid new [] → SoFar chain known script k state input old new
@@ -244,7 +244,7 @@ module _ (chain : ChainHash) (known : Option (List ℕ)) (script : Option (List 
         lines = all;
         limit = limit;
         accepted =
-            ap (λ (x : State). x.accepted) at.at.state_is
+            ap (λ (x : ScriptState). x.accepted) at.at.state_is
             ∙ ap (λ (asked : List Command). length (history_of chain (items_of asked))) whole;
         text = told_of at;
       })
@@ -263,7 +263,7 @@ module _ (chain : ChainHash) (known : Option (List ℕ)) (script : Option (List 
 
 -- ---- lines that were read ahead
 
-module _ (chain : ChainHash) (known : Option (List ℕ)) (script : Option (List ℕ)) (k : ℕ) (state : State)
+module _ (chain : ChainHash) (known : Option (List ℕ)) (script : Option (List ℕ)) (k : ℕ) (state : ScriptState)
     (buffered : List ℕ) (left : Option (List ℕ)) (old mid : OutputState)
     (so_far : SoFar chain known script k state (ahead buffered left) old mid) where
   -- there are more than the limit
@@ -291,7 +291,7 @@ module _ (chain : ChainHash) (known : Option (List ℕ)) (script : Option (List 
       )
 
   -- they are answered
-  pub step : (first count len : ℕ) (state' : State) (new : OutputState) → IsFirstLine buffered left first
+  pub step : (first count len : ℕ) (state' : ScriptState) (new : OutputState) → IsFirstLine buffered left first
       → HaveAnswers chain (k + 1) state state' buffered first (Tells mid new) count len
       → SoFar chain known script (k + count) state' (ahead (drop len buffered) left) old new
   step first count len state' new line answers = IfSome_then script so_far (λ s at.
@@ -308,7 +308,7 @@ module _ (chain : ChainHash) (known : Option (List ℕ)) (script : Option (List 
       }))
 
   -- a prefix of the text of lines that were read was written
-  cut_at : (s : List ℕ) (at : IsSoFar chain known s k state (ahead buffered left) old mid) (n : ℕ) (state' : State)
+  cut_at : (s : List ℕ) (at : IsSoFar chain known s k state (ahead buffered left) old mid) (n : ℕ) (state' : ScriptState)
       (read bytes text : List ℕ) (new : OutputState) → left ≡ Some bytes → n ≤ MAX_LINES
       → Steps chain known s k n state' (read ++ bytes) text → TellsSome mid new text → IsCutShort chain known (TellsSome old new) left s
   cut_at s at n state' read bytes text new is limit steps some = record {

@@ -5,14 +5,14 @@ use Rattle.lgm_script.specs.Device.{Input}
 use Rattle.lgm_script.specs.Lines.{ahead, IsFirstLine}
 use Rattle.lgm_script.specs.Output.{OutputState, Tells}
 use Rattle.lgm_answers.specs.declared.run_fault.TheConstants.{MAX_LINES}
-use Rattle.lgm_answers.specs.Script.{State}
+use Rattle.lgm_answers.specs.Script.{ScriptState}
 use Rattle.lgm_run.specs.inner.Steps.{opening}
 use Rattle.lgm_run.specs.inner.Progress.{HaveAnswers}
 use Rattle.lgm_run.proofs.Progress.{SoFar, starts, step, told_on}
 
 -- a script was answered up to this line, and no device failed
 pub record IsUpTo (chain : ChainHash) (known : Option (List ℕ)) (source : Input) (output : OutputState)
-    (k : ℕ) (state : State) (buffered : List ℕ) (mid : Input) (between : OutputState) : Type 0 where
+    (k : ℕ) (state : ScriptState) (buffered : List ℕ) (mid : Input) (between : OutputState) : Type 0 where
   pub read_same : mid.failures ≡ source.failures
   pub write_same : between.sink.failures ≡ output.sink.failures
   pub writer : between.writer ≡ output.writer
@@ -30,7 +30,7 @@ up_to_first chain known source output = record {
 }
 
 module _ {chain : ChainHash} {known : Option (List ℕ)} {source : Input} {output : OutputState} {k : ℕ}
-    {state : State} {buffered : List ℕ} {mid : Input} {between : OutputState}
+    {state : ScriptState} {buffered : List ℕ} {mid : Input} {between : OutputState}
     (up_to : IsUpTo chain known source output k state buffered mid between) where
   -- the same, after more was read
   pub so_far_on : (buffered' : List ℕ) (source' : Input)
@@ -55,7 +55,7 @@ module _ {chain : ChainHash} {known : Option (List ℕ)} {source : Input} {outpu
   }
 
   -- and the next lines were answered
-  pub answered_on : {state' : State} {output' : OutputState} {first count len : ℕ}
+  pub answered_on : {state' : ScriptState} {output' : OutputState} {first count len : ℕ}
       → IsFirstLine buffered mid.left first
       → HaveAnswers chain (k + 1) state state' buffered first (Tells between output') count len
       → k + count ≤ MAX_LINES

@@ -16,7 +16,7 @@ use crate::lookahead::{hint_of, lookahead};
 use lgm_answers::{MAX_LINES, outcome_word};
 use lgm_check::Refusal;
 use lgm_par::Gate;
-use lgm_script::{Command, Group, Kind, Line, Output, SendFault, Sink, parse};
+use lgm_script::{Command, Group, Line, LineKind, Output, SendFault, Sink, parse};
 use lgm_store::Hint;
 use std::alloc::Global;
 use std::thread::Threads;
@@ -55,7 +55,7 @@ fn answer_items<Rt: Threads + Sync, G: Gate, W: Sink>(
     engine: &mut Engine,
     output: &mut Output<'_, W>,
 ) -> Result<(), SendFault>
-    requires items { AllByRecursion (IsOfKind Kind.Item) (asked_in lines.now) }
+    requires items { AllByRecursion (IsOfKind LineKind.Item) (asked_in lines.now) }
     requires number { first + length lines.now < 2 ^ 64 }
     requires few { engine.old.accepted + length lines.now ≤ MAX_LINES }
     ensures state { OnOk result (engine.new ≡ state_from context.now.chain engine.old (asked_in lines.now)) }
@@ -82,7 +82,7 @@ fn answer_alone<W: Sink>(
     engine: &mut Engine,
     output: &mut Output<'_, W>,
 ) -> Result<(), SendFault>
-    requires { IsOfKind Kind.Other (command_of line.now) }
+    requires { IsOfKind LineKind.Other (command_of line.now) }
     ensures state { OnOk result (engine.new ≡ state_alone engine.old (command_of line.now)) }
     ensures written { Writes (told_by W.seen output.old) (told_by W.seen output.new)
         (text_alone number engine.old (command_of line.now)) result }
@@ -113,8 +113,8 @@ pub fn answer<Rt: Threads + Sync, G: Gate, W: Sink>(
 {
     let lines = group.lines.as_slice();
     match group.kind {
-        Kind::Item => answer_items(context, first, lines, engine, output),
-        Kind::Question => engine.answer_questions(context, first, lines, output),
-        Kind::Other => answer_alone(context.pool.alloc, first, lines[0], engine, output),
+        LineKind::Item => answer_items(context, first, lines, engine, output),
+        LineKind::Question => engine.answer_questions(context, first, lines, output),
+        LineKind::Other => answer_alone(context.pool.alloc, first, lines[0], engine, output),
     }
 }

@@ -32,9 +32,9 @@ pub struct Engine {
 
 impl Model for Engine {
     ghost use Rattle.lgm_run.specs.inner.Engine.{IsFew};
-    ghost use Rattle.lgm_answers.specs.Script.{State};
+    ghost use Rattle.lgm_answers.specs.Script.{ScriptState};
 
-    ghost Value = { State };
+    ghost Value = { ScriptState };
 
     ghost view = { λ e. record {
       known = e.maps.known;

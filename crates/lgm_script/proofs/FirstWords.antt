@@ -6,8 +6,8 @@ use Rattle.std.specs.Option.{option_map}
 use Rattle.std.specs.Cmp.Lexicographic.{pointwise}
 use Rattle.std.proofs.lemmas.Bool.{cases_Bool, ltb-true}
 use Rattle.std.proofs.lemmas.Bool.Decides.{nat_tests}
-use Rattle.lgm_script.specs.declared.group.Kind.{Kind}
-use Rattle.lgm_script.specs.declared.group.Kind.TheVariants.{Item as ItemKind, Question, Other}
+use Rattle.lgm_script.specs.declared.group.LineKind.{LineKind}
+use Rattle.lgm_script.specs.declared.group.LineKind.TheVariants.{Item as ItemKind, Question, Other}
 use Rattle.lgm_script.specs.declared.item.Item.{Item}
 use Rattle.lgm_script.specs.declared.route_parameters.RouteParameters.{RouteParameters}
 use Rattle.lgm_script.specs.declared.command.Command.{Command}
@@ -33,7 +33,7 @@ quiet_is_other [] quiet = refl
 quiet_is_other (b ∷ bytes) quiet = rw (is_sign b bytes quiet) refl
 
 -- what a line of the kind can request, with a lawful peer, and no route unless it has that word
-abbrev Asks : Kind → Bool → Command → Type 0
+abbrev Asks : LineKind → Bool → Command → Type 0
 Asks kind route request = IsOfKind kind request × ((route ≡ false → IsNoRoute request) × HasLawfulPeer request)
 
 -- a number that is parsed is below its limit

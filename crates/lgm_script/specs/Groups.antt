@@ -1,8 +1,8 @@
 -- Lines that are answered together.
 use Rattle.std.specs.Prelude.{◌≡◌, ℕ, ◌+◌, ◌<◌, List, [], ◌∷◌, length, take, drop, Option}
 use Rattle.std.specs.List.{AllByRecursion}
-use Rattle.lgm_script.specs.declared.group.Kind.{Kind}
-use Rattle.lgm_script.specs.declared.group.Kind.TheVariants.{Item, Question, Other}
+use Rattle.lgm_script.specs.declared.group.LineKind.{LineKind}
+use Rattle.lgm_script.specs.declared.group.LineKind.TheVariants.{Item, Question, Other}
 use Rattle.lgm_script.specs.declared.command.Command.{Command}
 use Rattle.lgm_script.specs.declared.command.Command.TheVariants as requests
 use Rattle.lgm_script.specs.Command.{command_of}
@@ -16,7 +16,7 @@ AreFirstLines buffered left (line ∷ lines) rest =
     × AreFirstLines (drop (length line + 1) buffered) left lines rest
 
 -- what a line of that kind can request; whatever its first word is, it may be malformed
-abbrev pub IsOfKind : Kind → Command → Type 0
+abbrev pub IsOfKind : LineKind → Command → Type 0
 IsOfKind kind requests.Bad = Unit {0}
 IsOfKind Item (requests.Offer item) = Unit {0}
 IsOfKind Question (requests.Query bytes) = Unit {0}
@@ -27,7 +27,7 @@ IsOfKind Other requests.Commit = Unit {0}
 IsOfKind kind _ = ⊥
 
 -- one or more lines that request what lines of a kind can request, or one line of another kind
-pub record AreAlike (kind : Kind) (lines : List (List ℕ)) : Type 0 where
+pub record AreAlike (kind : LineKind) (lines : List (List ℕ)) : Type 0 where
   pub some : 0 < length lines
   pub each : AllByRecursion (λ line. IsOfKind kind (command_of line)) lines
   pub alone : kind ≡ Other → length lines ≡ 1

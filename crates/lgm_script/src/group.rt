@@ -13,7 +13,7 @@ use std::alloc::{AllocError, Global};
 
 /// What kind of answer a line requests, by its first word. The rest of the line may still be malformed.
 #[derive(Clone, Copy, Debug, PartialEq, Eq)]
-pub enum Kind {
+pub enum LineKind {
     /// The outcome of an item: `m` or `close`.
     Item,
     /// An answer on the committed map: `q`, `filter` or `route`.
@@ -27,13 +27,13 @@ pub enum Kind {
 const LINES_TOGETHER: usize = 1_024;
 
 /// The maximum number of lines of a kind that are answered together.
-fn most_of(kind: Kind) -> usize
+fn most_of(kind: LineKind) -> usize
     ensures some { 0 < result }
-    ensures alone { kind ≡ Kind.Other → result ≡ 1 }
+    ensures alone { kind ≡ LineKind.Other → result ≡ 1 }
 {
     match kind {
-        Kind::Item | Kind::Question => LINES_TOGETHER,
-        Kind::Other => 1,
+        LineKind::Item | LineKind::Question => LINES_TOGETHER,
+        LineKind::Other => 1,
     }
 }
 
@@ -46,27 +46,27 @@ fn has_route_word(line: &[u8]) -> bool
 
 /// The kind of a line.
 #[tactic(auto, using(crate::proofs::FirstWords::request_is_of_kind))]
-fn kind_of(line: &[u8]) -> Kind
+fn kind_of(line: &[u8]) -> LineKind
     ensures kind { result ≡ kind_of line.now }
     ensures asks { IsOfKind result (command_of line.now) }
 {
     if line.strip_prefix(b"m ").is_some() || line.strip_prefix(b"close ").is_some() {
-        return Kind::Item;
+        return LineKind::Item;
     }
     if line.strip_prefix(b"q ").is_some()
         || line.strip_prefix(b"filter ").is_some()
         || has_route_word(line)
     {
-        return Kind::Question;
+        return LineKind::Question;
     }
-    Kind::Other
+    LineKind::Other
 }
 
 /// Consecutive lines within what was read ahead.
 #[derive(Drop)]
 pub struct Group<'a> {
     /// The kind of all of them.
-    pub kind: Kind,
+    pub kind: LineKind,
     /// The lines, without their line feeds.
     pub lines: Vec<&'a [u8]>,
     /// Their length in bytes, with their line feeds.
@@ -83,7 +83,7 @@ fn cut(bytes: &[u8], count: usize) -> (&[u8], &[u8])
 }
 
 /// The next line and the bytes after it, if it is complete, within the limit, and of this kind.
-fn next_of_kind(bytes: &[u8], kind: Kind) -> Option<(&[u8], &[u8])>
+fn next_of_kind(bytes: &[u8], kind: LineKind) -> Option<(&[u8], &[u8])>
     ensures line { IfSome result
         (λ next. (left : Option (List ℕ)) → IsFirstLine bytes.now left (length next.0.now)) }
     ensures front { IfSome result (λ next. next.0.now ≡ take (length next.0.now) bytes.now) }

@@ -25,7 +25,7 @@ mod text;
 pub use command::{Command, parse};
 pub use device::{Failed, Sink, Source, write_all};
 pub use failures::Failures;
-pub use group::{Group, Kind, may_ask_routes, next_group};
+pub use group::{Group, LineKind, may_ask_routes, next_group};
 pub use item::{Item, ItemForm, decode_digits, item_form};
 pub use line_reader::{LineReader, MAX_LINE, ROOM};
 pub use memory::{MemorySink, MemorySource};

@@ -45,6 +45,14 @@ impl<'a> Tlvs<'a> {
     {
         self.items.as_slice()
     }
+
+    /// The vector of its records, without a copy.
+    pub fn into_vec(self) -> Vec<Tlv<'a>>
+        ensures { records_of result.items ≡ self.entry }
+    {
+        let Tlvs { items } = self;
+        items
+    }
 }
 
 /// The leading record, whose type is above the last one, and the bytes after it.

@@ -6,7 +6,7 @@ use Rattle.std.specs.declared.option.Option.TheVariants.{None, Some}
 use Rattle.std.specs.declared.alloc.Global.{Global}
 use Rattle.std.specs.contracts.impls.GlobalAllocator.TheImpl.{ghosts}
 use Rattle.std.specs.Box.Ownership.{box_owns}
-use Rattle.lgm_c.specs.contracts.state.State.{the_row}
+use Rattle.lgm_c.specs.contracts.chain_map.ChainMap.{the_row}
 
 -- the box at p, if there is one
 abbrev pub owns_box : Ptr → Option the_row.Denot → Fml

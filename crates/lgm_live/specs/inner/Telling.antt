@@ -7,7 +7,7 @@ use Rattle.lgm_live.specs.declared.report.LiveAnswer.{LiveAnswer}
 use Rattle.lgm_live.specs.declared.report.LiveReport.{LiveReport}
 use Rattle.lgm_live.specs.declared.parsed_script.LineAnswer.{LineAnswer}
 use Rattle.lgm_live.specs.declared.parsed_script.LineAnswer.TheVariants as line_answers
-use Rattle.lgm_live.specs.declared.write_answers.Place.{Place}
+use Rattle.lgm_live.specs.declared.write_answers.ReportPlace.{ReportPlace}
 use Rattle.lgm_live.specs.Text.{answer_at, at_line}
 
 abbrev pub is_item : LineAnswer → Bool
@@ -23,7 +23,7 @@ is_payment (line_answers.Payment secret) = true
 is_payment _ = false
 
 -- the indices of the next outcome, end and answer of a report after these lines
-abbrev pub place_behind : List LineAnswer → Place
+abbrev pub place_behind : List LineAnswer → ReportPlace
 place_behind before =
     record {
       items = count_by is_item before;
@@ -32,7 +32,7 @@ place_behind before =
     }
 
 -- the indices after one more line
-abbrev pub place_passed : Place → LineAnswer → Place
+abbrev pub place_passed : ReportPlace → LineAnswer → ReportPlace
 place_passed place line_answers.Item = record place { items = place.items + 1 }
 place_passed place line_answers.Commit = record place { ends = place.ends + 1 }
 place_passed place (line_answers.Payment secret) = record place { payments = place.payments + 1 }
@@ -44,7 +44,7 @@ same_text number secret None = []
 same_text number secret (Some answer) =
     at_line number answer.version (codes "same") ++ route_text number secret answer.result
 
-abbrev pub slot_text : ℕ → LiveReport → ℕ → Place → LineAnswer → List ℕ
+abbrev pub slot_text : ℕ → LiveReport → ℕ → ReportPlace → LineAnswer → List ℕ
 slot_text workers report number place line_answers.Quiet = []
 slot_text workers report number place line_answers.Bad = word_line number (codes "bad")
 slot_text workers report number place line_answers.Item =
@@ -56,7 +56,7 @@ slot_text workers report number place (line_answers.Payment secret) =
     same_text number secret (answer_at workers report.answers.items place.payments)
 
 -- the report has what a line's answer refers to
-abbrev pub IsThere : ℕ → LiveReport → Place → LineAnswer → Type 0
+abbrev pub IsThere : ℕ → LiveReport → ReportPlace → LineAnswer → Type 0
 IsThere workers report place line_answers.Item = place.items < length report.outcomes.items
 IsThere workers report place line_answers.Commit = place.ends < length report.ends.items
 IsThere workers report place (line_answers.Payment secret) =

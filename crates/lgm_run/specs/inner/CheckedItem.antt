@@ -14,7 +14,7 @@ use Rattle.lgm_script.specs.declared.command.Command.{Command}
 use Rattle.lgm_script.specs.declared.command.Command.TheVariants as requests
 use Rattle.lgm_script.specs.Text.{word_line}
 use Rattle.lgm_answers.specs.Answer.{outcome_word}
-use Rattle.lgm_answers.specs.Script.{State}
+use Rattle.lgm_answers.specs.Script.{ScriptState}
 use Rattle.lgm_run.specs.inner.Steps.{state_behind}
 use Rattle.lgm_run.specs.declared.checked_item.CheckedItem.{CheckedItem}
 use Rattle.lgm_run.specs.declared.checked_item.CheckedItem.TheVariants.{Message, Close, Refused}
@@ -45,7 +45,7 @@ settled (Ok op) = Ok tt
 settled (Err refusal) = Err refusal
 
 -- the state after a line's item, if it offers one
-abbrev pub state_by : State → Option CheckedItem → State
+abbrev pub state_by : ScriptState → Option CheckedItem → ScriptState
 state_by state None = state
 state_by state (Some item) = state_behind state (outcome_on state.rows item)
 

@@ -12,7 +12,7 @@ use Rattle.lgm_answers.specs.declared.run_fault.RunFault.{RunFault}
 use Rattle.lgm_answers.specs.declared.run_fault.RunFault.TheVariants as faults
 use Rattle.lgm_run.specs.declared.script_run.Counts.{Counts}
 use Rattle.lgm_run.specs.Running.{NeedsNoBoard, IsAnswered, IsTooMany, IsTooLong, IsCutShort}
-use Rattle.lgm_answers.specs.Script.{State}
+use Rattle.lgm_answers.specs.Script.{ScriptState}
 use Rattle.lgm_run.specs.inner.Steps.{state_from, text_from}
 
 -- these are the next lines of what was read ahead, they have this many bytes, and none is too long
@@ -24,7 +24,7 @@ pub record AreNext (buffered : List ℕ) (first len : ℕ) (lines : List (List �
       → AreFirstLines buffered left lines (drop len buffered)
 
 -- this many next lines were answered, which have this many bytes
-pub record HaveAnswers (chain : ChainHash) (number : ℕ) (state state' : State) (buffered : List ℕ) (first : ℕ)
+pub record HaveAnswers (chain : ChainHash) (number : ℕ) (state state' : ScriptState) (buffered : List ℕ) (first : ℕ)
     (told : List ℕ → Type 0) (count len : ℕ) : Type 0 where
   pub lines : List (List ℕ)
   pub next : AreNext buffered first len lines
@@ -33,7 +33,7 @@ pub record HaveAnswers (chain : ChainHash) (number : ℕ) (state state' : State)
   pub text : told (text_from chain number state (map command_of lines))
 
 -- a prefix of the text of next lines was written, at most this many
-pub record HaveBegun (chain : ChainHash) (number most : ℕ) (state : State) (buffered : List ℕ) (first : ℕ)
+pub record HaveBegun (chain : ChainHash) (number most : ℕ) (state : ScriptState) (buffered : List ℕ) (first : ℕ)
     (told_part : List ℕ → Type 0) : Type 0 where
   pub lines : List (List ℕ)
   pub len : ℕ

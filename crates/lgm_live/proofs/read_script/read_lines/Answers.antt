@@ -4,7 +4,7 @@ use Rattle.lgm_script.specs.Output.{told_by}
 use Rattle.lgm_script.specs.Command.{command_of}
 use Rattle.lgm_answers.proofs.LineFaults.{failed}
 use Rattle.lgm_live.specs.inner.Gathered.{with_line}
-use Rattle.lgm_live.proofs.Noting.{with_lines-push, workers_are, payments_few}
+use Rattle.lgm_live.proofs.RequestedLinesLaws.{with_lines-push, workers_are, payments_few}
 use Rattle.lgm_live.proofs.WholeLines.{starts}
 use Rattle.lgm_live.proofs.Readings.{line_failed, read_on, line_read, all_read, more_lines, no_memory}
 use Rattle.lgm_live.proofs.read_script.read_lines.Goals as goal

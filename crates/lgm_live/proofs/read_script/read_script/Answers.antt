@@ -1,7 +1,7 @@
 use Rattle.std.proofs.Common.{[], ◌∷◌, ◌++◌, ap, ◌∙◌}
 use Rattle.lgm_live.specs.inner.Gathered.{Gathered}
 use Rattle.lgm_live.specs.inner.Reading.{with_lines}
-use Rattle.lgm_live.proofs.Noting.{agenda_is}
+use Rattle.lgm_live.proofs.RequestedLinesLaws.{agenda_is}
 use Rattle.lgm_live.proofs.read_script.read_script.Goals as goal
 
 pub returns : goal.returns

@@ -9,8 +9,8 @@ use Rattle.lgm_script.proofs.WrittenTextLaws.{tells_none, onward_first}
 use Rattle.lgm_run.specs.inner.CheckedItem.{offered_in}
 use Rattle.lgm_run.specs.inner.Questions.{asked_in}
 use Rattle.lgm_run.proofs.AlikeRequestLaws.{IsItemOf, items_of}
-use Rattle.lgm_run.proofs.Stepping.{accepted-le}
-use Rattle.lgm_run.proofs.Turning.{next_turn, all_done}
+use Rattle.lgm_run.proofs.CommandStepLaws.{accepted-le}
+use Rattle.lgm_run.proofs.TurnLaws.{next_turn, all_done}
 use Rattle.lgm_run.proofs.answer_lines.answer_items.Goals as goal
 
 pub returns-in_err-all-clause-written : goal.returns-in_err-all-clause-written

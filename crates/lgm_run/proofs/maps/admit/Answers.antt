@@ -1,4 +1,4 @@
-use Rattle.lgm_run.proofs.Keeping.{message_offers, close_offers}
+use Rattle.lgm_run.proofs.ItemCheckLaws.{message_offers, close_offers}
 use Rattle.lgm_run.proofs.maps.admit.Goals as goal
 
 pub returns-in-Message-clause-outcome : goal.returns-in-Message-clause-outcome

@@ -7,7 +7,7 @@ use Rattle.std.proofs.lemmas.Slice.Zip.{AllZip-long}
 use Rattle.lgm_script.proofs.WrittenTextLaws.{tells_none, onward_first}
 use Rattle.lgm_script.specs.Command.{command_of}
 use Rattle.lgm_run.specs.inner.Questions.{asked_in, IsAnswerTo}
-use Rattle.lgm_run.proofs.Turning.{turn_at, all_done}
+use Rattle.lgm_run.proofs.TurnLaws.{turn_at, all_done}
 use Rattle.lgm_run.proofs.questions.answer_questions.Goals as goal
 
 pub loop-answer-init : goal.loop-answer-init

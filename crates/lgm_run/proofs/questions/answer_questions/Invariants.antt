@@ -2,7 +2,7 @@ use Rattle.std.proofs.Common.{◌≡◌, ◌+◌, length, drop}
 use Rattle.std.specs.Prelude.{IfOk}
 use Rattle.lgm_script.specs.Output.{told_by}
 use Rattle.lgm_run.specs.inner.Questions.{asked_in, filters_after, filters_behind, question_text, questions_text, IsAnswerTo}
-use Rattle.lgm_run.proofs.Turning.{AreLeft}
+use Rattle.lgm_run.proofs.TurnLaws.{AreLeft}
 use Rattle.lgm_run.proofs.questions.answer_questions.Given as goal
 
 abbrev pub invariant-loop-answer : goal.invariant-loop-answer

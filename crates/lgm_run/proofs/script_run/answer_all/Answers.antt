@@ -4,7 +4,7 @@ use Rattle.std.specs.Prelude.{IfOk, IfSome, Err}
 use Rattle.lgm_script.specs.Output.{told_by, Tells, TellsSome}
 use Rattle.lgm_run.specs.Running.{IsAnswered, IsTooMany, IsTooLong, IsCutShort}
 use Rattle.lgm_answers.specs.declared.run_fault.RunFault.TheVariants.{TooManyLines, LineTooLong}
-use Rattle.lgm_run.proofs.Ending.{ok_written, many_written, long_written, fault_written, own_ended, writer_ended, nothing_ran}
+use Rattle.lgm_run.proofs.RunEndLaws.{ok_written, many_written, long_written, fault_written, own_ended, writer_ended, nothing_ran}
 use Rattle.lgm_run.proofs.script_run.answer_all.Goals as goal
 
 pub returns-in_err-made-clause-runs : goal.returns-in_err-made-clause-runs

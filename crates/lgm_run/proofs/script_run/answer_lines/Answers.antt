@@ -6,9 +6,9 @@ use Rattle.lgm_script.specs.Output.{told_by}
 use Rattle.lgm_script.specs.Command.{command_of}
 use Rattle.lgm_answers.specs.declared.run_fault.TheConstants.{MAX_LINES}
 use Rattle.lgm_answers.proofs.LineFaults.{failed}
-use Rattle.lgm_run.proofs.Stepping.{accepted_from-le}
+use Rattle.lgm_run.proofs.CommandStepLaws.{accepted_from-le}
 use Rattle.lgm_run.proofs.Reached.{up_to_first, read_on, answered_on}
-use Rattle.lgm_run.proofs.Stopping.{line_failed, all_answered, more_lines, answer_failed}
+use Rattle.lgm_run.proofs.AnsweredLinesLaws.{line_failed, all_answered, more_lines, answer_failed}
 use Rattle.lgm_run.proofs.script_run.answer_lines.Goals as goal
 
 pub loop-number-init : goal.loop-number-init

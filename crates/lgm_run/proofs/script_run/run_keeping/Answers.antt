@@ -1,5 +1,5 @@
 use Rattle.std.proofs.lemmas.Result.{err_from_is_err_and}
-use Rattle.lgm_run.proofs.Ending.{nothing_ran}
+use Rattle.lgm_run.proofs.RunEndLaws.{nothing_ran}
 use Rattle.lgm_run.proofs.script_run.run_keeping.Goals as goal
 
 pub returns-in_err-block : goal.returns-in_err-block

@@ -27,34 +27,34 @@ use std::marker::Model;
 
 /// What a handle has of a map.
 #[derive(Drop)]
-pub enum Kind {
+pub enum MapKind {
     /// One that changes.
     Changing(ChangingMap),
     /// One as it was when it was published.
     Published(PublishedMap),
 }
 
-impl Kind {
+impl MapKind {
     /// The map as it is now, for good: a copy, or one more owner. The only error is out of memory.
     fn publish(&mut self, alloc: Global) -> Result<PublishedMap, AllocError>
         ensures same { self.new ≡ self.old }
         ensures published { IfOk result (λ map. map ≡ counted_in self.old) }
     {
         match self {
-            Kind::Changing(map) => map.publish(alloc),
-            Kind::Published(map) => map.share(),
+            MapKind::Changing(map) => map.publish(alloc),
+            MapKind::Published(map) => map.share(),
         }
     }
 }
 
 /// A map of a chain, which changes or was published. Contracts see one value, whichever it is.
 #[derive(Drop)]
-pub struct State {
+pub struct ChainMap {
     chain: ChainHash,
-    kind: Kind,
+    kind: MapKind,
 }
 
-impl Model for State {
+impl Model for ChainMap {
     ghost use Rattle.lgm_c.specs.MapState.{MapState};
 
     ghost Value = { MapState };
@@ -64,20 +64,20 @@ impl Model for State {
     ghost view = { λ s. state_in s.chain s.kind };
 }
 
-impl State {
+impl ChainMap {
     /// A map with no rows and no mark, whose points are hashed by the seed. The only error is out of memory.
     pub(crate) fn new(
         alloc: Global,
         chain: ChainHash,
         known: Known,
         seed: Seed,
-    ) -> Result<State, AllocError>
+    ) -> Result<ChainMap, AllocError>
         ensures { IfOk result (λ state. state ≡ opened chain.0 known) }
     {
         let network = Network::new(alloc, seed, &known)?;
-        Ok(State {
+        Ok(ChainMap {
             chain,
-            kind: Kind::Changing(ChangingMap::new(network)),
+            kind: MapKind::Changing(ChangingMap::new(network)),
         })
     }
 
@@ -91,9 +91,9 @@ impl State {
         ensures { Offers bytes.now evidence (status_of result) (Some self.old) (Some self.new) }
     {
         match (&mut self.kind, evidence) {
-            (Kind::Published(_), _) => Err(Fault::Published),
-            (Kind::Changing(_), None) => Err(Fault::Argument),
-            (Kind::Changing(map), Some(evidence)) => {
+            (MapKind::Published(_), _) => Err(Fault::Published),
+            (MapKind::Changing(_), None) => Err(Fault::Argument),
+            (MapKind::Changing(map), Some(evidence)) => {
                 Ok(map.offer(alloc, &self.chain, bytes, &evidence)?)
             }
         }
@@ -104,8 +104,8 @@ impl State {
         ensures { Closes scid (status_of result) (Some self.old) (Some self.new) }
     {
         match &mut self.kind {
-            Kind::Changing(map) => Ok(map.close(alloc, scid)?),
-            Kind::Published(_) => Err(Fault::Published),
+            MapKind::Changing(map) => Ok(map.close(alloc, scid)?),
+            MapKind::Published(_) => Err(Fault::Published),
         }
     }
 
@@ -114,8 +114,8 @@ impl State {
         ensures { Bans point.0 (status_of result) (Some self.old) (Some self.new) }
     {
         match &mut self.kind {
-            Kind::Changing(map) => Ok(map.ban(alloc, point)?),
-            Kind::Published(_) => Err(Fault::Published),
+            MapKind::Changing(map) => Ok(map.ban(alloc, point)?),
+            MapKind::Published(_) => Err(Fault::Published),
         }
     }
 
@@ -124,8 +124,8 @@ impl State {
         ensures { MovesMark (status_of result) (Some self.old) (Some self.new) }
     {
         match &mut self.kind {
-            Kind::Changing(map) => Ok(map.renew_mark(alloc)?),
-            Kind::Published(_) => Err(Fault::Published),
+            MapKind::Changing(map) => Ok(map.renew_mark(alloc)?),
+            MapKind::Published(_) => Err(Fault::Published),
         }
     }
 
@@ -143,8 +143,8 @@ impl State {
             (buffer room.old needed.old) (buffer room.new needed.new) }
     {
         match &mut self.kind {
-            Kind::Changing(map) => map.news(alloc, filter, room, needed),
-            Kind::Published(map) => write_first_news(alloc, map.map(), filter, room, needed),
+            MapKind::Changing(map) => map.news(alloc, filter, room, needed),
+            MapKind::Published(map) => write_first_news(alloc, map.map(), filter, room, needed),
         }
     }
 
@@ -154,19 +154,19 @@ impl State {
         ensures route { IsRouted attempt.now self.old.known self.old.rows result }
     {
         match &mut self.kind {
-            Kind::Changing(map) => map.route(alloc, attempt),
-            Kind::Published(map) => map.route(alloc, attempt),
+            MapKind::Changing(map) => map.route(alloc, attempt),
+            MapKind::Published(map) => map.route(alloc, attempt),
         }
     }
 
     /// The map as it is now, for good. The only error is out of memory.
-    pub(crate) fn publish(&mut self, alloc: Global) -> Result<State, AllocError>
+    pub(crate) fn publish(&mut self, alloc: Global) -> Result<ChainMap, AllocError>
         ensures same { self.new ≡ self.old }
         ensures published { IfOk result (λ state. state ≡ published self.old) }
     {
-        Ok(State {
+        Ok(ChainMap {
             chain: self.chain,
-            kind: Kind::Published(self.kind.publish(alloc)?),
+            kind: MapKind::Published(self.kind.publish(alloc)?),
         })
     }
 
@@ -175,7 +175,7 @@ impl State {
         ensures value { result ≡ self.now.is_published }
         ensures same { result ≡ true → published self.now ≡ self.now }
     {
-        matches!(&self.kind, Kind::Published(_))
+        matches!(&self.kind, MapKind::Published(_))
     }
 
     /// The chain.
@@ -190,8 +190,8 @@ impl State {
         ensures { result.now ≡ self.now.rows }
     {
         match &self.kind {
-            Kind::Changing(map) => map.map(),
-            Kind::Published(map) => map.map(),
+            MapKind::Changing(map) => map.map(),
+            MapKind::Published(map) => map.map(),
         }
     }
 
@@ -200,8 +200,8 @@ impl State {
         ensures { result ≡ self.now.version }
     {
         match &self.kind {
-            Kind::Changing(map) => map.version(),
-            Kind::Published(map) => map.version(),
+            MapKind::Changing(map) => map.version(),
+            MapKind::Published(map) => map.version(),
         }
     }
 }

@@ -17,7 +17,7 @@ use Rattle.lgm_answers.specs.declared.run_fault.RunFault.TheVariants as faults
 use Rattle.lgm_run.specs.declared.script_run.Counts.{Counts}
 use Rattle.lgm_answers.specs.Faults.{line_fault, send_fault}
 use Rattle.lgm_run.specs.Running.{NeedsNoBoard, IsAnswered, IsTooMany, IsCutShort}
-use Rattle.lgm_answers.specs.Script.{State}
+use Rattle.lgm_answers.specs.Script.{ScriptState}
 use Rattle.lgm_run.specs.inner.Progress.{HasAnswered, HaveBegun}
 use Rattle.lgm_answers.proofs.LineFaults.{failed, ends_at}
 use Rattle.lgm_run.proofs.Progress.{told_on, ends, many, long, cut, cut_in}
@@ -53,7 +53,7 @@ not_write : {T : Type 0} (fault : LineFault) → fault ≡ lines.TooLong
 not_write {T = T} fault is same = let here = sym (ap (failed {T = T}) is) ∙ same in cc
 
 module _ {chain : ChainHash} {known : Option (List ℕ)} {source : Input} {output : OutputState} {k : ℕ}
-    {state : State} {buffered : List ℕ} {mid : Input} {between : OutputState}
+    {state : ScriptState} {buffered : List ℕ} {mid : Input} {between : OutputState}
     (up_to : IsUpTo chain known source output k state buffered mid between) where
   -- a line couldn't be read
   pub line_failed : {T : Type 0} (buffered' : List ℕ) (source' : Input) (output' : OutputState) (fault : LineFault)

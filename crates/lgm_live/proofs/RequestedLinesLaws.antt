@@ -12,7 +12,7 @@ use Rattle.lgm_answers.specs.Routing.{asked_route}
 use Rattle.lgm_live.specs.ParsedScript.{batches_behind, payments_of, dealt_from, list_for}
 use Rattle.lgm_live.specs.inner.Gathered.{Gathered, line_answer_of, given, with_request, with_line, IsParsed}
 use Rattle.lgm_live.specs.inner.Reading.{with_lines}
-use Rattle.lgm_live.proofs.Dealing.{dealt_here, dealt_there}
+use Rattle.lgm_live.proofs.DealtPaymentLaws.{dealt_here, dealt_there}
 
 -- nothing was requested
 abbrev pub nothing_asked : ℕ → Gathered

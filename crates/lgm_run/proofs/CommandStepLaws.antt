@@ -23,7 +23,7 @@ use Rattle.lgm_query.specs.declared.request.RequestFault.{RequestFault}
 use Rattle.lgm_answers.specs.Filters.{filters_with, filters_from}
 use Rattle.lgm_query.specs.Requests.{filter_read}
 use Rattle.lgm_answers.specs.Outcomes.{outcome_of, with_outcome, outcomes_behind, history_of}
-use Rattle.lgm_answers.specs.Script.{item_in, items_of, is_commit, before_commit, filter_given, filter_of, filters_of, State, state_of}
+use Rattle.lgm_answers.specs.Script.{item_in, items_of, is_commit, before_commit, filter_given, filter_of, filters_of, ScriptState, state_of}
 use Rattle.lgm_answers.proofs.Outcomes.{outcome_joins}
 use Rattle.lgm_run.specs.inner.Steps.{opening, state_behind, state_after, state_from}
 use Rattle.lgm_run.proofs.Tables.{filters_from-agree, no_filters, filters_from-put}
@@ -160,7 +160,7 @@ opening_is chain known =
     (sym (filters_of-is chain [] ∙ no_filters (filter_of chain []) 0 1000 (λ p. refl)))
 
 -- the state of a history, of which the first operations were committed, and of filters
-abbrev state_at : Option (List ℕ) → List Op → List Op → List PeerFilter → State
+abbrev state_at : Option (List ℕ) → List Op → List Op → List PeerFilter → ScriptState
 state_at known history committed filters =
     record {
       known = known;
@@ -203,17 +203,17 @@ state_after-request chain known asked request small =
     by_request chain known asked request
     ∙ rw (← history_asked-push chain asked request, ← before_commit-push asked request, filters_of-push chain asked request small) refl
 
-state_behind-le : (state : State) (outcome : Result Op Refusal) → (state_behind state outcome).accepted ≤ state.accepted + 1
+state_behind-le : (state : ScriptState) (outcome : Result Op Refusal) → (state_behind state outcome).accepted ≤ state.accepted + 1
 state_behind-le state (Ok op) = omega arith
 state_behind-le state (Err refusal) = omega arith
 
 -- a request has one item at most
-pub accepted-le : (chain : ChainHash) (state : State) (request : Command) → (state_after chain state request).accepted ≤ state.accepted + 1
+pub accepted-le : (chain : ChainHash) (state : ScriptState) (request : Command) → (state_after chain state request).accepted ≤ state.accepted + 1
 accepted-le chain state (requests.Offer item) = state_behind-le state (outcome_of chain state.rows item)
 accepted-le chain state _ = omega arith
 
 -- and this many requests at most this many items
-pub accepted_from-le : (chain : ChainHash) (state : State) (asked : List Command)
+pub accepted_from-le : (chain : ChainHash) (state : ScriptState) (asked : List Command)
     → (state_from chain state asked).accepted ≤ state.accepted + length asked
 accepted_from-le chain state [] = omega arith
 accepted_from-le chain state (request ∷ asked) =
