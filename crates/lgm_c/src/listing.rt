@@ -5,7 +5,7 @@ ghost use Rattle.lgm_c.specs.Listing.{above, next_channel_found, next_node_found
 ghost use Rattle.lgm_c.specs.Status.{if_open, status_of, Finds};
 
 use crate::fault::{Fault, status};
-use crate::map::{LgmMap, with_state};
+use crate::lgm_map::{LgmMap, with_state};
 use lgm_gossip::{Point, Scid};
 use lgm_store::Map;
 use std::alloc::Global;

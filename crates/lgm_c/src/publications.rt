@@ -8,7 +8,7 @@ ghost use Rattle.lgm_c.specs.Published.{Publishes, SharesIf, Shares, version_of}
 use crate::boxes::boxed;
 use crate::chain_map::ChainMap;
 use crate::fault::Fault;
-use crate::map::{LgmMap, with_state};
+use crate::lgm_map::{LgmMap, with_state};
 use std::alloc::{AllocError, Global};
 
 /// A box for a handle, unless memory ran out.

@@ -13,7 +13,7 @@ ghost use Rattle.lgm_c.specs.inner.Framing.{MayWrite};
 use crate::chain_map::ChainMap;
 use crate::fault::{Fault, status};
 use crate::frames::{write_backlog, write_replies};
-use crate::map::{LgmMap, with_state};
+use crate::lgm_map::{LgmMap, with_state};
 use lgm_gossip::ChainHash;
 use lgm_query::{Filter, Query, news, read_filter, read_query};
 use lgm_store::Map;

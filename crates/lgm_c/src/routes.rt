@@ -13,7 +13,7 @@ ghost use Rattle.lgm_c.specs.Status.{if_open, number_of, status_of};
 use crate::attempt::{Attempt, LgmEdge, LgmLimit, LgmPoint};
 use crate::chain_map::ChainMap;
 use crate::fault::{Fault, status};
-use crate::map::{LgmMap, with_state};
+use crate::lgm_map::{LgmMap, with_state};
 use crate::output::copy_in_front;
 use lgm_gossip::{Bytes, Point};
 use lgm_graph::overlays_are_lawful;

@@ -6,7 +6,7 @@ ghost use Rattle.lgm_c.specs.Status.{if_open, status_of};
 ghost use Rattle.lgm_c.specs.Writing.{Writes, buffer};
 
 use crate::fault::{Fault, status};
-use crate::map::{LgmMap, with_state};
+use crate::lgm_map::{LgmMap, with_state};
 use crate::output::write_bytes;
 use lgm_check::Refusal;
 use lgm_gossip::{Point, Scid};

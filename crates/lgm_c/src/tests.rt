@@ -7,9 +7,9 @@ mod listing;
 mod published;
 mod wanted;
 
+use crate::changes::{lgm_close_channel, lgm_free, lgm_offer, lgm_open};
+use crate::lgm_map::LgmMap;
 use crate::lookups::{LgmChannel, LgmDirection, LgmNode, lgm_channel, lgm_count, lgm_node};
-use crate::map::LgmMap;
-use crate::offers::{lgm_close_channel, lgm_free, lgm_offer, lgm_open};
 use crate::queries::{lgm_filter, lgm_mark, lgm_news, lgm_query};
 use crate::routes::{LgmHop, LgmLengths, LgmPayment, lgm_route};
 use crate::words::{lgm_version, lgm_word};

@@ -10,7 +10,7 @@ ghost use Rattle.lgm_c.specs.Status.{status_of};
 ghost use Rattle.lgm_c.specs.Wanting.{signed_by, setter_in, right_verdicts, key_in, TellsOf, Wants, NoneMends};
 
 use crate::fault::{Fault, status};
-use crate::map::{LgmMap, with_state};
+use crate::lgm_map::{LgmMap, with_state};
 use lgm_check::{Evidence, Funding, Refusal, Sig, precheck};
 use lgm_gossip::{ChainHash, ChannelUpdate, Layout, NodeAnnounce, Point, Scid, layout_of};
 use lgm_store::Map;

@@ -1,8 +1,8 @@
 -- When an operation is refused for the number of operations.
 use Rattle.std.specs.Prelude.{◌≡◌, ◌↔◌, ℕ, Result, Ok, Err}
 use Rattle.lgm_publish.specs.declared.snapshot.TheConstants.{MAX_OPERATIONS}
-use Rattle.lgm_publish.specs.declared.faults.AppendFault.{AppendFault}
-use Rattle.lgm_publish.specs.declared.faults.AppendCause.TheVariants.{Full}
+use Rattle.lgm_publish.specs.declared.fault.AppendFault.{AppendFault}
+use Rattle.lgm_publish.specs.declared.fault.AppendCause.TheVariants.{Full}
 
 -- after this many operations: Full is returned if and only if the limit is reached
 abbrev pub AppendIs : {A : Type 0} → Result A AppendFault → ℕ → Type 0

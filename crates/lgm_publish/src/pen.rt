@@ -5,7 +5,7 @@ ghost use Rattle.lgm_publish.specs.Appended.{AppendIs};
 ghost use Rattle.lgm_publish.specs.inner.Book.{head_of};
 ghost use Rattle.lgm_publish.specs.inner.Shown.{IsComplete, Publishes, whole};
 
-use crate::faults::{AppendCause, AppendFault, NoMemory};
+use crate::fault::{AppendCause, AppendFault, NoMemory};
 use crate::snapshot::MAX_OPERATIONS;
 use crate::told::{Head, Told};
 use crate::writer::{Sides, absorb, publish_all, reach};

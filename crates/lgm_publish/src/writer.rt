@@ -4,7 +4,7 @@ ghost use Rattle.std.specs.Prelude.{◌≡◌, ◌≤◌, ◌∷◌, [], ◌++�
 ghost use Rattle.left_right.specs.Sides.{view as last_of};
 ghost use Rattle.lgm_publish.specs.inner.Shown.{ops_of, whole, IsComplete, Publishes};
 
-use crate::faults::NoMemory;
+use crate::fault::NoMemory;
 use crate::rule::{Last, Published, Seeing};
 use crate::snapshot::{LogEntry, MAX_OPERATIONS, Snapshot};
 use crate::told::Told;

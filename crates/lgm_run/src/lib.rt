@@ -4,7 +4,7 @@
 //! [`Sink`](lgm_script::Sink). Its contract defines that text, line by line, however the bytes of the script arrive.
 #![tactic(auto)]
 
-mod answer_lines;
+mod answer_group;
 mod checked_item;
 mod context;
 mod engine;

@@ -7,7 +7,7 @@ ghost use Rattle.lgm_run.specs.inner.Progress.{HaveAnswers, HaveBegun, HasAnswer
 ghost use Rattle.lgm_run.specs.Runs.{Runs};
 ghost use Rattle.lgm_run.specs.inner.Ending.{IsEnded};
 
-use crate::answer_lines::answer;
+use crate::answer_group::answer_group;
 use crate::context::Context;
 use crate::engine::Engine;
 use crate::final_state::FinalState;
@@ -66,7 +66,7 @@ fn answer_next<Rt: Threads + Sync, G: Gate, W: Sink>(
         (λ text. TellsPart (told_by W.seen output.old) (told_by W.seen output.new) text fault)) }
 {
     let group = next_group(context.pool.alloc, lines.buffered(), first, most)?;
-    answer(context, number, &group, engine, output)?;
+    answer_group(context, number, &group, engine, output)?;
     Ok((group.lines.len() as u64, group.len))
 }
 
@@ -106,7 +106,7 @@ fn answer_lines<Rt: Threads + Sync, G: Gate, R: Source, W: Sink>(
 }
 
 /// Answers a whole script to an output with an empty buffer, and writes all answers. The maps stay with the caller.
-fn answer_all<Rt: Threads + Sync + RandomSource, G: Gate, R: Source, W: Sink>(
+fn answer_script<Rt: Threads + Sync + RandomSource, G: Gate, R: Source, W: Sink>(
     context: &Context<'_, Rt, G>,
     known: &Known,
     source: &mut R,
@@ -123,11 +123,11 @@ fn answer_all<Rt: Threads + Sync + RandomSource, G: Gate, R: Source, W: Sink>(
     let made = Engine::new(alloc, Seed::random(context.pool.rt), known)?;
     let engine = remains.hold(made);
     let answered = answer_lines(context, &mut lines, source, engine, output);
-    write_answers(answered, output)
+    flush_answers(answered, output)
 }
 
 /// Writes the buffered answers, unless the sink has failed. Returns how the run ended.
-fn write_answers<W: Sink>(
+fn flush_answers<W: Sink>(
     answered: Result<Counts, RunFault>,
     output: &mut Output<'_, W>,
 ) -> Result<Counts, RunFault>
@@ -196,5 +196,5 @@ pub fn run_keeping<Rt: Threads + Sync + RandomSource, G: Gate, R: Source, W: Sin
 {
     let mut block = Vec::with_capacity(context.pool.alloc, BLOCK)?;
     let mut output = Output::new(&mut block, writer);
-    answer_all(context, known, reader, &mut output, remains)
+    answer_script(context, known, reader, &mut output, remains)
 }

@@ -3,8 +3,8 @@
 
 use super::{A, B, NUMBER, blank_hop, opened};
 use crate::attempt::{ANY_DELAY, LgmEdge, LgmLimit, LgmPoint};
-use crate::map::LgmMap;
-use crate::offers::lgm_free;
+use crate::changes::lgm_free;
+use crate::lgm_map::LgmMap;
 use crate::publications::lgm_publish;
 use crate::routes::{LgmLengths, LgmPayment, lgm_route, lgm_route_over};
 use std::alloc::{AllocError, Global};

@@ -1,8 +1,8 @@
 //! What calls take: it is bounded by the map and by the caller's buffers.
 
 use super::{A, B, CHAIN, SCID, filtered, joined, news, offered, opened, queried, query};
-use crate::map::LgmMap;
-use crate::offers::{lgm_free, lgm_offer, lgm_open};
+use crate::changes::{lgm_free, lgm_offer, lgm_open};
+use crate::lgm_map::LgmMap;
 use crate::publications::{lgm_publish, lgm_share};
 use crate::queries::lgm_mark;
 use std::alloc::{AllocError, Global};

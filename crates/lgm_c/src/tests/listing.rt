@@ -1,10 +1,10 @@
 //! What a map has, and bans.
 
 use super::{A, B, CHAIN, NUMBER, announcement, node, offered, opened, set, update};
+use crate::changes::{lgm_ban, lgm_free, lgm_open};
+use crate::lgm_map::LgmMap;
 use crate::listing::{lgm_next_banned, lgm_next_channel, lgm_next_node};
 use crate::lookups::lgm_count;
-use crate::map::LgmMap;
-use crate::offers::{lgm_ban, lgm_free, lgm_open};
 use crate::publications::{lgm_publish, lgm_version_of};
 use crate::stored_messages::{lgm_channel_message, lgm_node_message};
 use std::alloc::Global;

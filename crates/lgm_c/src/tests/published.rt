@@ -4,9 +4,9 @@ use super::{
     A, B, CHAIN, NUMBER, announcement, filtered, found_channel, found_node, joined, news, node,
     offered, opened, paid, queried, query, update,
 };
+use crate::changes::{lgm_close_channel, lgm_free, lgm_open};
+use crate::lgm_map::LgmMap;
 use crate::lookups::lgm_count;
-use crate::map::LgmMap;
-use crate::offers::{lgm_close_channel, lgm_free, lgm_open};
 use crate::publications::{lgm_publish, lgm_share, lgm_version_of};
 use crate::queries::{lgm_mark, lgm_news_between};
 use std::alloc::Global;

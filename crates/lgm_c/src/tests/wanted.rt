@@ -1,8 +1,8 @@
 //! Whether messages are worth verifying.
 
 use super::{A, B, CHAIN, announcement, node, offered, opened, query, set, update};
-use crate::map::LgmMap;
-use crate::offers::{lgm_ban, lgm_free, lgm_open};
+use crate::changes::{lgm_ban, lgm_free, lgm_open};
+use crate::lgm_map::LgmMap;
 use crate::publications::lgm_publish;
 use crate::wanted::lgm_wanted;
 use std::alloc::Global;

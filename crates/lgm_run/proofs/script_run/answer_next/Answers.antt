@@ -22,10 +22,10 @@ returns-clause-answered g c =
         front = rw c.buffered.ensures at c.in_ok-group.ensures.lines;
       };
       count_is = omega (arith, c.len.ensures, c.in_ok-group.group.lines.ok.0, length-map items (λ line. line.now));
-      state_is = c.in_ok-answer.ensures.state ∙ ap (state_from c.args.context.now.chain c.args.engine.now) asked;
+      state_is = c.in_ok-answer_group.ensures.state ∙ ap (state_from c.args.context.now.chain c.args.engine.now) asked;
       text =
-          subst (λ a. Tells (told_by g.W.Sink.seen c.args.output.now) (told_by g.W.Sink.seen c.answer.new.output) (text_from
-          c.args.context.now.chain c.args.number c.args.engine.now a)) asked c.in_ok-answer.ensures.written;
+          subst (λ a. Tells (told_by g.W.Sink.seen c.args.output.now) (told_by g.W.Sink.seen c.answer_group.new.output) (text_from
+          c.args.context.now.chain c.args.number c.args.engine.now a)) asked c.in_ok-answer_group.ensures.written;
     }
 
 pub returns-in_err-group-clause-fault : goal.returns-in_err-group-clause-fault
@@ -40,9 +40,9 @@ returns-in_err-group-clause-fault g c =
       text = tells_none _ _;
     })
 
-pub returns-in_err-answer-clause-fault : goal.returns-in_err-answer-clause-fault
-returns-in_err-answer-clause-fault g c =
-    let p = err_from_is_err_and c.from_residual-in_err-answer.result c.from_residual-in_err-answer.ensures.1 in
+pub returns-in_err-answer_group-clause-fault : goal.returns-in_err-answer_group-clause-fault
+returns-in_err-answer_group-clause-fault g c =
+    let p = err_from_is_err_and c.from_residual-in_err-answer_group.result c.from_residual-in_err-answer_group.ensures.1 in
     let items = c.in_ok-group.group.lines.items in
     rw (p.1, p.2) (record {
       lines = map (λ line. line.now) items;
@@ -55,7 +55,7 @@ returns-in_err-answer-clause-fault g c =
       };
       limit = omega (arith, c.in_ok-group.ensures.few, length-map items (λ line. line.now));
       text =
-          subst (λ a. TellsPart (told_by g.W.Sink.seen c.args.output.now) (told_by g.W.Sink.seen c.answer.new.output)
-          (text_from c.args.context.now.chain c.args.number c.args.engine.now a) c.in_err-answer.field-0.0)
-          (asked_texts items) c.in_err-answer.ensures.written;
+          subst (λ a. TellsPart (told_by g.W.Sink.seen c.args.output.now) (told_by g.W.Sink.seen c.answer_group.new.output)
+          (text_from c.args.context.now.chain c.args.number c.args.engine.now a) c.in_err-answer_group.field-0.0)
+          (asked_texts items) c.in_err-answer_group.ensures.written;
     })

@@ -5,7 +5,7 @@ use Rattle.lgm_script.specs.Output.{told_by, Tells, TellsSome}
 use Rattle.lgm_run.specs.Running.{IsAnswered, IsTooMany, IsTooLong, IsCutShort}
 use Rattle.lgm_answers.specs.declared.run_fault.RunFault.TheVariants.{TooManyLines, LineTooLong}
 use Rattle.lgm_run.proofs.RunEndLaws.{ok_written, many_written, long_written, fault_written, own_ended, writer_ended, nothing_ran}
-use Rattle.lgm_run.proofs.script_run.answer_all.Goals as goal
+use Rattle.lgm_run.proofs.script_run.answer_script.Goals as goal
 
 pub returns-in_err-made-clause-runs : goal.returns-in_err-made-clause-runs
 returns-in_err-made-clause-runs g c =
@@ -19,8 +19,8 @@ returns-clause-writer g c =
     let told = c.answer_lines-answered.ensures in
     writer_ended c.args.context.now.chain c.args.known.now (g.R.Source.seen c.args.source.now).left
     (told_by g.W.Sink.seen c.args.output.now) (told_by g.W.Sink.seen c.answer_lines-answered.new.output)
-    (told_by g.W.Sink.seen c.write_answers.new.output) c.answer_lines-answered.result c.write_answers.result
-    c.requires c.write_answers.ensures told.writer
+    (told_by g.W.Sink.seen c.flush_answers.new.output) c.answer_lines-answered.result c.flush_answers.result
+    c.requires c.flush_answers.ensures told.writer
 
 pub returns-clause-runs : goal.returns-clause-runs
 returns-clause-runs g c =
@@ -30,11 +30,11 @@ returns-clause-runs g c =
     let left = (g.R.Source.seen c.answer_lines-answered.new.source).left in
     let old = told_by g.W.Sink.seen c.args.output.now in
     let mid = told_by g.W.Sink.seen c.answer_lines-answered.new.output in
-    let new = told_by g.W.Sink.seen c.write_answers.new.output in
+    let new = told_by g.W.Sink.seen c.flush_answers.new.output in
     let answered = c.answer_lines-answered.result in
-    let result = c.write_answers.result in
+    let result = c.flush_answers.result in
     let told = c.answer_lines-answered.ensures in
-    let ended = c.write_answers.ensures in
+    let ended = c.flush_answers.ensures in
     let known = ap (λ state. state.known) (c.hold-engine.ensures ∙ c.in_ok-made.ensures) in
     record {
       ok = ok_written chain bits script old mid new answered result c.requires ended

@@ -3,7 +3,7 @@ use Rattle.std.specs.Prelude.{OnOk}
 use Rattle.lgm_script.specs.Output.{told_by, Writes}
 use Rattle.lgm_run.specs.inner.Questions.{asked_in}
 use Rattle.lgm_run.proofs.AlikeRequestLaws.{asked_as, questions_leave, questions_are_told, is_alone, other_leaves, other_is_told}
-use Rattle.lgm_run.proofs.answer_lines.answer.Goals as goal
+use Rattle.lgm_run.proofs.answer_group.answer_group.Goals as goal
 
 -- what a slice has beyond its end
 abbrev no_line : Bor (List ℕ)

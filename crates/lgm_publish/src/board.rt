@@ -8,7 +8,7 @@ ghost use Rattle.lgm_graph.specs.Edges.{edges_of};
 ghost use Rattle.lgm_route.specs.Choice.{answer_of};
 
 use crate::eye::Eye;
-use crate::faults::PublishFault;
+use crate::fault::PublishFault;
 use crate::pen::Pen;
 use crate::rule::Telling;
 use crate::snapshot::{MAX_OPERATIONS, Snapshot};

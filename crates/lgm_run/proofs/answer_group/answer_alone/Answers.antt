@@ -1,6 +1,6 @@
 use Rattle.std.proofs.lemmas.Result.{err_from_is_err_and}
 use Rattle.lgm_script.proofs.WrittenTextLaws.{tells_none}
-use Rattle.lgm_run.proofs.answer_lines.answer_alone.Goals as goal
+use Rattle.lgm_run.proofs.answer_group.answer_alone.Goals as goal
 
 pub returns-in_err-parse-clause-written : goal.returns-in_err-parse-clause-written
 returns-in_err-parse-clause-written g c =

@@ -11,7 +11,7 @@ use Rattle.lgm_run.specs.inner.Questions.{asked_in}
 use Rattle.lgm_run.proofs.AlikeRequestLaws.{IsItemOf, items_of}
 use Rattle.lgm_run.proofs.CommandStepLaws.{accepted-le}
 use Rattle.lgm_run.proofs.TurnLaws.{next_turn, all_done}
-use Rattle.lgm_run.proofs.answer_lines.answer_items.Goals as goal
+use Rattle.lgm_run.proofs.answer_group.answer_items.Goals as goal
 
 pub returns-in_err-all-clause-written : goal.returns-in_err-all-clause-written
 returns-in_err-all-clause-written g c =

@@ -1,7 +1,7 @@
 //! Faults.
 
 ghost use Rattle.std.specs.Prelude.{◌≡◌};
-ghost use Rattle.lgm_publish.specs.declared.faults.PublishFault.TheVariants.{NoMemory};
+ghost use Rattle.lgm_publish.specs.declared.fault.PublishFault.TheVariants.{NoMemory};
 
 use lgm_store::Op;
 use std::alloc::AllocError;

@@ -8,7 +8,7 @@ use Rattle.lgm_answers.specs.Script.{text_for}
 use Rattle.lgm_run.specs.inner.Steps.{state_after, state_from, text_from}
 use Rattle.lgm_run.proofs.AlikeRequestLaws.{IsItemOf}
 use Rattle.lgm_run.proofs.TurnLaws.{AreLeft}
-use Rattle.lgm_run.proofs.answer_lines.answer_items.Given as goal
+use Rattle.lgm_run.proofs.answer_group.answer_items.Given as goal
 
 abbrev pub invariant-loop-item : goal.invariant-loop-item
 invariant-loop-item g l = record {

@@ -96,7 +96,7 @@ fn answer_alone<W: Sink>(
 
 /// Answers the lines of a group, the first of which has this number. Afterwards their accepted items are in the map,
 /// their filters are set, and what was accepted is committed if they request that.
-pub fn answer<Rt: Threads + Sync, G: Gate, W: Sink>(
+pub fn answer_group<Rt: Threads + Sync, G: Gate, W: Sink>(
     context: &Context<'_, Rt, G>,
     first: u64,
     group: &Group<'_>,

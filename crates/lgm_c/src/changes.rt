@@ -10,7 +10,7 @@ use crate::boxes::boxed;
 use crate::chain_map::ChainMap;
 use crate::evidence::evidence;
 use crate::fault::{Fault, status};
-use crate::map::{LgmMap, with_state};
+use crate::lgm_map::{LgmMap, with_state};
 use lgm_gossip::{ChainHash, Point, Scid};
 use lgm_graph::Known;
 use lgm_store::Seed;
