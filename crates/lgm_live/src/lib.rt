@@ -7,13 +7,13 @@
 
 mod batches;
 mod fault;
-mod live;
+mod live_batches;
+mod live_script;
 mod ordering_gate;
 mod parsed_script;
 mod read_script;
 mod report;
 mod request_lists;
-mod run_live;
 mod versions;
 mod worker;
 mod write_answers;
@@ -21,7 +21,7 @@ mod writer;
 
 pub use batches::Batches;
 pub use fault::LiveFault;
-pub use live::live;
+pub use live_batches::live;
+pub use live_script::run_live;
 pub use report::{LiveAnswer, LiveReport};
 pub use request_lists::RequestLists;
-pub use run_live::run_live;

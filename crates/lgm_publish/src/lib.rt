@@ -9,11 +9,11 @@
 //! [`World`] is the same as a plain single-threaded state machine, with a law on its answers.
 #![tactic(auto)]
 
-mod board;
 mod event;
 mod eye;
 mod fault;
 mod laws;
+mod new_board;
 mod pen;
 mod rule;
 mod snapshot;
@@ -21,11 +21,11 @@ mod told;
 mod world;
 mod writer;
 
-pub use board::{MAX_READERS, board};
 pub use event::{Event, Reply, WorldFault};
 pub use eye::{Eye, Guard};
 pub use fault::{AppendCause, AppendFault, NoMemory, PublishFault};
 pub use laws::eyes_answer_on_published_maps;
+pub use new_board::{MAX_READERS, board};
 pub use pen::Pen;
 pub use snapshot::MAX_OPERATIONS;
 pub use told::Told;

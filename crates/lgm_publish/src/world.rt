@@ -3,8 +3,8 @@
 ghost use Rattle.std.specs.Prelude.{◌≡◌, ◌≢◌, ◌⊎◌, Some, Err, Ok, IfOk, OnOk, OnErr};
 ghost use Rattle.lgm_publish.specs.World.{opening, refusal, outcome, after, IsStep};
 
-use crate::board::find_route;
 use crate::event::{Event, Reply, WorldFault};
+use crate::new_board::find_route;
 use crate::snapshot::MAX_OPERATIONS;
 use lgm_graph::Known;
 use lgm_route::{Request, RouteFault};

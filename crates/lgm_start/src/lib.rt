@@ -3,7 +3,7 @@
 
 mod answer;
 mod options;
-mod start;
+mod program;
 
 pub use options::{BadWords, read_words};
-pub use start::{fault_line, refuse, start, start_with_gate};
+pub use program::{fault_line, refuse, start, start_with_gate};

@@ -9,7 +9,7 @@ use Rattle.lgm_live.specs.inner.Gathered.{line_answer_of}
 use Rattle.lgm_live.proofs.Ends.{no_memory, not_answered, not_written, not_read}
 use Rattle.lgm_live.proofs.Runs.{reported, there, whole, in_part}
 use Rattle.lgm_live.proofs.Scripts.{items_few}
-use Rattle.lgm_live.proofs.run_live.run_all.Goals as goal
+use Rattle.lgm_live.proofs.live_script.run_all.Goals as goal
 
 pub returns-in_err-parsed : goal.returns-in_err-parsed
 returns-in_err-parsed g c =

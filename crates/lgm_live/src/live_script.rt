@@ -3,7 +3,7 @@
 ghost use Rattle.std.specs.Prelude.{◌≡◌, ◌≤◌, []};
 ghost use Rattle.lgm_live.specs.RunsLive.{RunsLive};
 
-use crate::live::live;
+use crate::live_batches::live;
 use crate::ordering_gate::OrderingGate;
 use crate::read_script::read_script;
 use crate::report::LiveReport;

@@ -1,7 +1,7 @@
 use Rattle.std.proofs.Common.{◌≡◌, length, Some, All}
 use Rattle.left_right.specs.Sides.{view as last_of}
 use Rattle.lgm_publish.specs.inner.Contents.{sight}
-use Rattle.lgm_publish.proofs.board.seat_all.Given as goal
+use Rattle.lgm_publish.proofs.new_board.seat_all.Given as goal
 
 abbrev pub invariant-loop-eye : goal.invariant-loop-eye
 invariant-loop-eye l = record {

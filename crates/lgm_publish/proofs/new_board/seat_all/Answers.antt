@@ -1,5 +1,5 @@
 use Rattle.lgm_publish.proofs.Boards.{admits, forks, merges}
-use Rattle.lgm_publish.proofs.board.seat_all.Goals as goal
+use Rattle.lgm_publish.proofs.new_board.seat_all.Goals as goal
 
 pub reader-requires : goal.reader-requires
 reader-requires c = admits

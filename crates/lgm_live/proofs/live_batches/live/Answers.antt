@@ -1,5 +1,5 @@
 use Rattle.lgm_live.proofs.Reports.{are_of, boards_stay, are_reported, ends_within, reported}
-use Rattle.lgm_live.proofs.live.live.Goals as goal
+use Rattle.lgm_live.proofs.live_batches.live.Goals as goal
 
 pub gather-report-requires-clause-within : goal.gather-report-requires-clause-within
 gather-report-requires-clause-within g c =

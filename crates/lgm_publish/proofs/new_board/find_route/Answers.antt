@@ -1,7 +1,7 @@
 use Rattle.std.proofs.Common.{length, ap, arith}
 use Rattle.lgm_store.specs.Rows.{empty}
 use Rattle.lgm_store.proofs.ChannelCountLaws.{fold_few}
-use Rattle.lgm_publish.proofs.board.find_route.Goals as goal
+use Rattle.lgm_publish.proofs.new_board.find_route.Goals as goal
 
 pub of-requires : goal.of-requires
 of-requires c =

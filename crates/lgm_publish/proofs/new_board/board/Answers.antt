@@ -2,7 +2,7 @@ use Rattle.std.proofs.Common.{◌∙◌, ap}
 use Rattle.lgm_publish.specs.Handles.{History}
 use Rattle.lgm_publish.specs.inner.Contents.{Contents}
 use Rattle.lgm_publish.proofs.Boards.{opens}
-use Rattle.lgm_publish.proofs.board.board.Goals as goal
+use Rattle.lgm_publish.proofs.new_board.board.Goals as goal
 
 pub new-requires-3-clause-rule : goal.new-requires-3-clause-rule
 new-requires-3-clause-rule g c =
