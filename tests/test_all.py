@@ -4,6 +4,7 @@
     python3 tests/test_all.py
 """
 
+import os
 import subprocess
 import sys
 import tempfile
@@ -17,9 +18,10 @@ sys.dont_write_bytecode = True  # the repository gets no made files
 TOP = Path(__file__).resolve().parent.parent
 FILES = ("tests/run.py", "examples/test_embedding.py")
 GATE = """#!/bin/sh
-# Says what `rt ci` is made to say, and ends so.
+# Says what `rt ci` is made to say, or how many checks it may run at once, and ends so.
 [ "$*" = ci ] || exit 9
 echo "rt: on standard error" >&2
+[ "${GATE-}" = jobs ] && GATE="$RT_JOBS passed, 0 failed\\n"
 printf '%b' "${GATE:-12 passed, 0 failed\\n}"
 exit "${GATE_STATUS:-0}"
 """
@@ -64,6 +66,13 @@ def adds_up(place):
     assert lines[begins[1] + 1] == "== 9 passed, 0 failed", lines
     assert lines[begins[0] + 2].startswith("test: rt ci: 12 passed, 0 failed, "), lines
     assert place.run("--minutes", "180")[2] == "22 passed, 0 failed"
+
+
+def runs_one_check_on_each_processor(place):
+    """`rt ci` is told how many checks run at once, unless the environment says so."""
+    at_once = int(place.run(GATE="jobs")[2].split()[0]) - 10
+    assert 1 <= at_once <= os.cpu_count(), at_once
+    assert place.run(GATE="jobs", RT_JOBS="70")[2] == "80 passed, 0 failed"
 
 
 def fails(place):
@@ -122,7 +131,8 @@ def needs_a_program(place):
 
 def main():
     """Runs each test, in order, in one place."""
-    tests = (adds_up, fails, leaves_out_what_has_no_time, stops_at_the_limit, needs_a_program)
+    tests = (adds_up, runs_one_check_on_each_processor, fails, leaves_out_what_has_no_time, stops_at_the_limit,
+             needs_a_program)
     with tempfile.TemporaryDirectory() as folder:
         place = Place(Path(folder))
         for test in tests:
