@@ -3,12 +3,10 @@
 
     python3 tests/memory.py
 
-It is run by hand, after `rt ci`.
-
 A test of the crates can't refuse memory itself. These are written so that they pass wherever one request is refused: a
 call that returns out of memory has left all as before, and gives its right answer when it is called again. They are the
 programs that `rt ci` leaves in `crates/NAME/out`, built of what was proved. It needs the GNU C library and a C compiler
-(`cc`). Without one, or where `rt ci` wasn't run, so that none of the programs is there, it is left out, with status 77.
+(`cc`). Without one it is left out, with status 77, and so are the tests of a crate whose program isn't there.
 """
 
 import os
@@ -65,10 +63,7 @@ def main():
         print("left out: tests/memory.py, which needs cc")
         return 77
     programs = {crate: CRATES / crate / "out" / f"{crate}_tests" for crate, _ in TESTS}
-    if not any(it.exists() for it in programs.values()):
-        print("left out: tests/memory.py, which runs what rt ci builds")
-        return 77
-    good = True
+    good, ran = True, 0
     with tempfile.TemporaryDirectory() as name:
         folder = Path(name)
         shim = folder / "refuse.so"
@@ -76,13 +71,13 @@ def main():
         for crate, test in TESTS:
             program = programs[crate]
             if not program.exists():
-                print(f"{crate}: {program.name} isn't built")
-                good = False
+                print(f"left out: {test} of {crate}, which rt ci builds")
                 continue
+            ran += 1
             count, wrong = refuse_each(shim, folder / "refused", program, test)
             good = good and not wrong and count > 0
             print(f"{crate}, {test}: refused {count}" + (f", FAILED at {', '.join(map(str, wrong))}" if wrong else ""))
-    return 0 if good else 1
+    return 1 if not good else 0 if ran else 77
 
 
 if __name__ == "__main__":
