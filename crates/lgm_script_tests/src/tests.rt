@@ -4,7 +4,6 @@ mod closes;
 mod commits;
 mod filter_lines;
 mod limits;
-mod messages;
 mod queries;
 mod query_lines;
 mod sharing;

@@ -1,50 +1,56 @@
 //! Query lines: on which items they are answered, and by which words.
 
-use super::answers::assert_answers;
-use super::messages::{FIRST, SECOND, two_channels};
-use lgm_test_scripts::{CHAIN, OTHER_CHAIN};
+use super::answers::assert_spelled;
 use std::test::Fail;
 
+/// Of 1x0x0 and 2x0x0.
 #[test]
 fn answered_on_committed_items(rt: HostRuntime) -> Result<(), Fail> {
-    let alloc = rt.alloc();
-    let (first, second) = two_channels(alloc)?;
-    let query = format!(in alloc; "q 0105{CHAIN}001100{FIRST}{SECOND}")?;
-    let end = format!(in alloc; "0106{CHAIN}01")?;
-    let script = format!(in alloc;
-        "m {first} all 1\n{query}\ncommit\nm {second} all 1\n{query}\ncommit\n{query}\nclose 1x0x0\n\
-        {query}\ncommit\n{query}\n"
-    )?;
-    let want = format!(in alloc;
-        "1 accepted\n2 {end}\n3 commit 1\n4 accepted\n5 {first}\n5 {end}\n6 commit 2\n\
-        7 {first}\n7 {second}\n7 {end}\n8 accepted\n9 {first}\n9 {second}\n9 {end}\n10 commit 3\n\
-        11 {second}\n11 {end}\n"
-    )?;
-    assert_answers(&rt, alloc, script.as_bytes(), want.as_str())
+    let script = "m ca(1x0x0,A,B) all 1\n\
+        q [0105 H 0011 00 0000010000000000 0000020000000000]\n\
+        commit\n\
+        m ca(2x0x0,A,B) all 1\n\
+        q [0105 H 0011 00 0000010000000000 0000020000000000]\n\
+        commit\n\
+        q [0105 H 0011 00 0000010000000000 0000020000000000]\n\
+        close 1x0x0\n\
+        q [0105 H 0011 00 0000010000000000 0000020000000000]\n\
+        commit\n\
+        q [0105 H 0011 00 0000010000000000 0000020000000000]\n";
+    let want =
+        "1 accepted\n2 [0106 H 01]\n3 commit 1\n4 accepted\n5 ca(1x0x0,A,B)\n5 [0106 H 01]\n6 commit 2\n\
+        7 ca(1x0x0,A,B)\n7 ca(2x0x0,A,B)\n7 [0106 H 01]\n8 accepted\n9 ca(1x0x0,A,B)\n9 ca(2x0x0,A,B)\n\
+        9 [0106 H 01]\n10 commit 3\n11 ca(2x0x0,A,B)\n11 [0106 H 01]\n";
+    assert_spelled(&rt, rt.alloc(), script, want)
 }
 
 #[test]
 fn words_for_other_messages(rt: HostRuntime) -> Result<(), Fail> {
-    let alloc = rt.alloc();
-    let script = format!(in alloc;
-        "q 0106{CHAIN}01\nq 0107{CHAIN}00\nq 0010\nq 0103\nq 00\nq 0109{CHAIN}0000000000000000\n\
-        q\nq \nq 0\nq zz\nq  0106{CHAIN}01\nq 0106{CHAIN}01 \nQ 0106{CHAIN}01\n"
-    )?;
+    let script = "q [0106 H 01]\n\
+        q [0107 H 00]\n\
+        q 0010\n\
+        q 0103\n\
+        q 00\n\
+        q [0109 H 00000000 00000000]\n\
+        q\n\
+        q \n\
+        q 0\n\
+        q zz\n\
+        q  [0106 H 01]\n\
+        q [0106 H 01] \n\
+        Q [0106 H 01]\n";
     let want = "1 not-query\n2 malformed\n3 unknown-even\n4 ignored\n5 malformed\n6 not-query\n\
         7 bad\n8 bad\n9 bad\n10 bad\n11 bad\n12 bad\n13 bad\n";
-    assert_answers(&rt, alloc, script.as_bytes(), want)
+    assert_spelled(&rt, rt.alloc(), script, want)
 }
 
 #[test]
 fn queries_of_another_chain(rt: HostRuntime) -> Result<(), Fail> {
-    let alloc = rt.alloc();
-    let script = format!(in alloc;
-        "q 0105{OTHER_CHAIN}0000\nq 0107{OTHER_CHAIN}000927c000000002\n\
-        q 0107{OTHER_CHAIN}000927c000000000010101\n"
-    )?;
-    let want = format!(in alloc;
-        "1 0106{OTHER_CHAIN}00\n2 0108{OTHER_CHAIN}000927c00000000201000100\n\
-        3 0108{OTHER_CHAIN}000927c00000000101000100010100\n"
-    )?;
-    assert_answers(&rt, alloc, script.as_bytes(), want.as_str())
+    let script = "q [0105 X 0000]\n\
+        q [0107 X 000927c0 00000002]\n\
+        q [0107 X 000927c0 00000001 010101]\n";
+    let want = "1 [0106 X 00]\n\
+        2 [0108 X 000927c0 00000002 01 0001 00]\n\
+        3 [0108 X 000927c0 00000001 01 0001 00 010100]\n";
+    assert_spelled(&rt, rt.alloc(), script, want)
 }

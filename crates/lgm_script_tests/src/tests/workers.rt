@@ -2,8 +2,8 @@
 
 use lgm_graph::Known;
 use lgm_par::Gate;
-use lgm_test_scripts::{CHAIN, ended, spelled};
-use std::alloc::{AllocError, Global};
+use lgm_test_scripts::{ended, spelled};
+use std::alloc::Global;
 use std::process::Abort;
 use std::random::RandomSource;
 use std::sync::atomic::{AtomicU64, Ordering};
@@ -78,26 +78,18 @@ pub fn answered<Rt: Threads + Sync + RandomSource>(
     Ok(Vec::from_slice(alloc, writer.taken())?)
 }
 
-/// A line for each of these channels, with its announcement.
-fn announcements(alloc: Global, scids: &[&str]) -> Result<String, AllocError> {
-    let mut script = String::new(alloc);
-    for scid in scids {
-        let line = format!(in alloc; "m ca({scid},A,B) all 100000\n")?;
-        script.push_str(spelled(alloc, &line)?.as_str())?;
-    }
-    Ok(script)
-}
-
-/// Of two lines the first is delayed until the second has begun, each by a worker of its own.
+/// Of two lines the first is delayed until the second has begun, each by a worker of its own. Both texts are in the
+/// notation of [`spelled`].
 fn assert_side_by_side<Rt: Abort + Threads + Sync + RandomSource>(
     rt: &Rt,
     alloc: Global,
-    script: &[u8],
-    want: &[u8],
+    script: &str,
+    want: &str,
 ) -> Result<(), Fail> {
+    let (script, want) = (spelled(alloc, script)?, spelled(alloc, want)?);
     let gate = counter(0);
-    let text = answered(rt, alloc, script, 2, &gate)?;
-    assert_eq!(rt; text.as_slice(), want);
+    let text = answered(rt, alloc, script.as_bytes(), 2, &gate)?;
+    assert_eq!(rt; text.as_slice(), want.as_bytes());
     assert!(rt; gate.went_on(), "ended at the limit");
     assert_eq!(rt; gate.of_piece(1), 1);
     Ok(())
@@ -105,17 +97,14 @@ fn assert_side_by_side<Rt: Abort + Threads + Sync + RandomSource>(
 
 #[test]
 fn items_side_by_side(rt: HostRuntime) -> Result<(), Fail> {
-    let alloc = rt.alloc();
-    let script = announcements(alloc, &["600000x1x0", "600000x2x0"])?;
-    assert_side_by_side(&rt, alloc, script.as_bytes(), b"1 accepted\n2 accepted\n")
+    let script = "m ca(600000x1x0,A,B) all 100000\nm ca(600000x2x0,A,B) all 100000\n";
+    assert_side_by_side(&rt, rt.alloc(), script, "1 accepted\n2 accepted\n")
 }
 
 #[test]
 fn questions_side_by_side(rt: HostRuntime) -> Result<(), Fail> {
-    let alloc = rt.alloc();
-    let query = format!(in alloc; "q 0105{CHAIN}0000\nq 0105{CHAIN}0000\n")?;
-    let reply = format!(in alloc; "1 0106{CHAIN}01\n2 0106{CHAIN}01\n")?;
-    assert_side_by_side(&rt, alloc, query.as_bytes(), reply.as_bytes())
+    let script = "q [0105 H 0000]\nq [0105 H 0000]\n";
+    assert_side_by_side(&rt, rt.alloc(), script, "1 [0106 H 01]\n2 [0106 H 01]\n")
 }
 
 /// More announcements than are taken together. One worker takes what 288 KiB of their text hold, so there are four
