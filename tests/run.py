@@ -1,7 +1,7 @@
 #!/usr/bin/env python3
 """Runs the tests that aren't of a crate and want no library for C: of the pages, the build script, `./test`, the
-comparison of the header, the Python package, the examples, the program beside Electrum, where calls fail, also in tests of
-crates, and where it runs for long.
+comparison of the header, the Python package, the examples, the scripts of tests/scripts with their answers, the program
+beside Electrum, where calls fail, also in tests of crates, and where it runs for long.
 
     python3 tests/run.py [PROGRAM]
 
@@ -15,11 +15,11 @@ from pathlib import Path
 
 TOP = Path(__file__).resolve().parent.parent
 ALONE = ("tests/pages.py", "tests/test_build.py", "tests/test_all.py", "tests/test_exports.py",
-         "gossip/test_messages.py", "tests/memory.py", "examples/python/test_lgm.py", "examples/network/test_plots.py")
+         "gossip/test_messages.py", "gossip/test_notation.py", "tests/memory.py", "examples/python/test_lgm.py",
+         "examples/network/test_plots.py")
 WITH_PROGRAM = ("examples/tools/test_why.py", "examples/tools/test_client.py", "examples/network/test_network.py",
                 "examples/electrum/test_wallet_database.py", "examples/test_examples.py", "examples/tools/test_why_route.py",
-                "examples/tools/test_shorten.py", "bench/test_route_picture.py",
-                "tests/electrum.py")
+                "examples/tools/test_shorten.py", "bench/test_route_picture.py", "tests/texts.py", "tests/electrum.py")
 # Over the program itself, since a shell in front of it would be refused calls too, and watched in place of it.
 BUILT = ("tests/refusals.py", "tests/soak.py")
 LEFT_OUT = 77
