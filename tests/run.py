@@ -19,7 +19,8 @@ ALONE = ("tests/pages.py", "tests/test_build.py", "tests/test_all.py", "tests/te
          "examples/network/test_plots.py")
 WITH_PROGRAM = ("examples/tools/test_why.py", "examples/tools/test_client.py", "examples/network/test_network.py",
                 "examples/electrum/test_wallet_database.py", "examples/test_examples.py", "examples/tools/test_why_route.py",
-                "examples/tools/test_shorten.py", "bench/test_route_picture.py", "tests/texts.py", "tests/electrum.py")
+                "examples/tools/test_shorten.py", "bench/test_route_picture.py", "tests/texts.py",
+                "tests/plain_routes.py", "tests/electrum.py")
 # Over the program itself, since a shell in front of it would be refused calls too, and watched in place of it.
 BUILT = ("tests/refusals.py", "tests/soak.py")
 LEFT_OUT = 77
