@@ -1,6 +1,6 @@
-//! Devices that fail, and limits, in whole scripts whose payments are answered beside a writer.
+//! Devices that fail in whole scripts whose payments are answered beside a writer.
 
-use crate::runs::{self, run_by};
+use crate::runs::run_by;
 use lgm_par::Open;
 use lgm_server::RunFault;
 use lgm_test_scripts::{FailingSink, FailingSource, spelled};
@@ -54,16 +54,6 @@ fn ended<Rt: Threads + Wait + Sync + RandomSource>(
     Ok((ended.err(), writer.taken))
 }
 
-/// How a script ends that is read in large pieces, and how many bytes are written.
-fn ended_at_once<Rt: Threads + Wait + Sync + RandomSource>(
-    rt: &Rt,
-    alloc: Global,
-    script: &[u8],
-) -> (Option<RunFault>, usize) {
-    let (fault, writer) = runs::ended(rt, alloc, script, 1_000_000, 3, &Open);
-    (fault, writer.taken().len())
-}
-
 // Each read of ten bytes, and those that find the end.
 #[test]
 fn failing_reads(rt: HostRuntime) -> Result<(), Fail> {
@@ -97,45 +87,5 @@ fn failing_writes(rt: HostRuntime) -> Result<(), Fail> {
             "write {write}"
         );
     }
-    Ok(())
-}
-
-// The lines before are whole, and nothing is written of them.
-#[test]
-fn a_line_that_is_too_long(rt: HostRuntime) -> Result<(), Fail> {
-    let mut script = Vec::from_slice(rt.alloc(), b"commit\n")?;
-    script.resize(140_008, b'x')?;
-    let (fault, written) = ended(&rt, rt.alloc(), script.as_slice(), 0, 0)?;
-    assert_eq!(rt; fault, Some(RunFault::LineTooLong));
-    assert!(rt; written.is_empty());
-    Ok(())
-}
-
-/// This many empty lines.
-fn empty_lines(alloc: Global, count: usize) -> Result<Vec<u8>, AllocError> {
-    let mut script = Vec::new(alloc);
-    script.resize(count, b'\n')?;
-    Ok(script)
-}
-
-// One more line than the limit.
-#[test]
-fn lines_beyond_the_limit(rt: HostRuntime) -> Result<(), Fail> {
-    let script = empty_lines(rt.alloc(), 10_000_001)?;
-    let (fault, written) = ended_at_once(&rt, rt.alloc(), script.as_slice());
-    assert_eq!(rt; fault, Some(RunFault::TooManyLines));
-    assert_eq!(rt; written, 0);
-    Ok(())
-}
-
-// Line 2 is too long, and there are too many lines after it.
-#[test]
-fn a_long_line_before_the_limit(rt: HostRuntime) -> Result<(), Fail> {
-    let mut script = empty_lines(rt.alloc(), 1)?;
-    script.resize(140_002, b'x')?;
-    script.resize(10_140_003, b'\n')?;
-    let (fault, written) = ended_at_once(&rt, rt.alloc(), script.as_slice());
-    assert_eq!(rt; fault, Some(RunFault::LineTooLong));
-    assert_eq!(rt; written, 0);
     Ok(())
 }

@@ -5,7 +5,7 @@ use lgm_graph::Known;
 use lgm_par::Open;
 use lgm_script::{Failed, MemorySource, Sink};
 use lgm_server::Batches;
-use lgm_test_scripts::{CHAIN, Line, item_of, run_by};
+use lgm_test_scripts::{CHAIN, item_of, run_by, spelled};
 use std::alloc::Global;
 use std::fs;
 use std::rt::Files;
@@ -26,8 +26,8 @@ fn most_memory<R: Files + AllocGlobal>(rt: &R) -> Result<u64, Fail> {
 /// The line that announces a channel between the nodes 0 and 1 by a message of 65,535 bytes, the most that one may
 /// have.
 fn long_channel(alloc: Global, block: u32) -> Result<String, Fail> {
-    let line = Line::Channel(block, 0, 1, 100_000, &[]).text(alloc)?;
-    let (message, _) = line.split_once(" all ").ok_or("no message")?;
+    let line = format!(in alloc; "m ca({block}x0x0,P0,P1)")?;
+    let message = spelled(alloc, line.as_str())?;
     let zeros = String::from_utf8(vec![in alloc; b'0'; 131_072usize.saturating_sub(
         message.len()
     )]?)?;

@@ -5,7 +5,7 @@ use crate::runs::{TWO_CHANNELS, ended};
 use lgm_par::{Gate, Open};
 use lgm_script::MemorySink;
 use lgm_server::RunFault;
-use lgm_test_scripts::{FREE, Line, script_of, spelled};
+use lgm_test_scripts::spelled;
 use std::alloc::{AllocError, Global};
 use std::marker::Sync;
 use std::random::RandomSource;
@@ -118,20 +118,6 @@ fn told<Rt: Threads + Wait + Sync + RandomSource, G: Gate>(
     ended(rt, alloc, script, 1_000, workers, gate)
 }
 
-// The third batch has no item, so all that was accepted is published before it.
-#[test]
-fn all_is_told_in_its_place(rt: HostRuntime) -> Result<(), Fail> {
-    let alloc = rt.alloc();
-    let (script, want) = (script(alloc)?, spelled(alloc, ANSWERS)?);
-    for workers in [1, 2, 3, 64] {
-        let gate = Behind::new(workers, 3);
-        let (fault, writer) = told(&rt, alloc, script.as_bytes(), workers, &gate);
-        assert_eq!(rt; fault, None, "{workers} workers");
-        assert_eq!(rt; writer.taken(), want.as_bytes(), "{workers} workers");
-    }
-    Ok(())
-}
-
 /// Whether this may be the answer to a payment over the two channels.
 fn is_lawful(told: &str) -> bool {
     told == "2 at 0 same\n2 no-route\n"
@@ -143,12 +129,11 @@ fn is_lawful(told: &str) -> bool {
 #[test]
 fn a_payment_may_come_first(rt: HostRuntime) -> Result<(), Fail> {
     let alloc = rt.alloc();
-    let lines = [
-        Line::Note,
-        Line::Pay(0, 1, 1_000, 700_000),
-        Line::Open(7, 0, 1, FREE),
-    ];
-    let script = script_of(alloc, &lines)?;
+    let lines = "#\n\
+        route P0 P1 1000 700000 S\n\
+        m ca(7x0x0,P0,P1) all 100000\n\
+        m cu(7x0x0,0,1) P0 -\n";
+    let script = spelled(alloc, lines)?;
     let (fault, writer) = told(&rt, alloc, script.as_bytes(), 1, &Open);
     assert_eq!(rt; fault, None);
     let Some(told) = writer
@@ -195,16 +180,15 @@ fn refused_memory(rt: HostRuntime) {
 #[test]
 fn a_payment_waits_for_what_is_above_it(rt: HostRuntime) -> Result<(), Fail> {
     let alloc = rt.alloc();
-    let lines = [
-        Line::Open(7, 0, 1, FREE),
-        Line::Commit,
-        Line::Pay(0, 1, 1_000, 700_000),
-        Line::Close(7),
-        Line::Commit,
-        Line::Pay(0, 1, 1_000, 700_000),
-        Line::Pay(0, 1, 1_000, 700_000),
-    ];
-    let script = script_of(alloc, &lines)?;
+    let lines = "m ca(7x0x0,P0,P1) all 100000\n\
+        m cu(7x0x0,0,1) P0 -\n\
+        commit\n\
+        route P0 P1 1000 700000 S\n\
+        close 7x0x0\n\
+        commit\n\
+        route P0 P1 1000 700000 S\n\
+        route P0 P1 1000 700000 S\n";
+    let script = spelled(alloc, lines)?;
     for workers in [1, 2, 3] {
         let (fault, writer) = told(&rt, alloc, script.as_bytes(), workers, &Open);
         assert_eq!(rt; fault, None);
@@ -254,15 +238,14 @@ impl Gate for Between {
 #[test]
 fn a_payment_is_answered_beside_the_writer(rt: HostRuntime) -> Result<(), Fail> {
     let alloc = rt.alloc();
-    let lines = [
-        Line::Open(7, 0, 1, FREE),
-        Line::Commit,
-        Line::Pay(0, 1, 1_000, 700_000),
-        Line::Pay(0, 1, 1_000, 700_000),
-        Line::Close(7),
-        Line::Commit,
-    ];
-    let script = script_of(alloc, &lines)?;
+    let lines = "m ca(7x0x0,P0,P1) all 100000\n\
+        m cu(7x0x0,0,1) P0 -\n\
+        commit\n\
+        route P0 P1 1000 700000 S\n\
+        route P0 P1 1000 700000 S\n\
+        close 7x0x0\n\
+        commit\n";
+    let script = spelled(alloc, lines)?;
     let gate = Between {
         begun: AtomicU64::new(0),
         publications: AtomicU64::new(0),

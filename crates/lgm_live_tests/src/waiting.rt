@@ -2,7 +2,7 @@
 
 use crate::runs::ended;
 use lgm_par::Gate;
-use lgm_test_scripts::{FREE, Line, script_of};
+use lgm_test_scripts::spelled;
 use std::alloc::{AllocError, Global};
 use std::sync::atomic::{AtomicU64, Ordering};
 use std::test::Fail;
@@ -42,11 +42,12 @@ impl Gate for AfterAll {
 
 /// A channel, a commit, and a payment for each worker.
 fn script(alloc: Global) -> Result<String, AllocError> {
-    let mut lines = vec![in alloc; Line::Open(7, 0, 1, FREE), Line::Commit]?;
+    let channel = "m ca(7x0x0,P0,P1) all 100000\nm cu(7x0x0,0,1) P0 -\ncommit\n";
+    let mut lines = String::from_str(alloc, channel)?;
     for _worker in 0..WORKERS {
-        lines.push(Line::Pay(0, 1, 1_000, 700_000))?;
+        lines.push_str("route P0 P1 1000 700000 S\n")?;
     }
-    script_of(alloc, lines.as_slice())
+    spelled(alloc, lines.as_str())
 }
 
 /// All payments are answered on the map of the commit.

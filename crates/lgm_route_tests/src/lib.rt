@@ -1,4 +1,4 @@
-//! Tests of payments in whole scripts through `run`, over memory.
+//! Tests of payments in whole scripts through `run`, over memory, when memory is refused.
 #![tactic(auto)]
 
 #[cfg(test)]

@@ -1,14 +1,1 @@
-mod beside;
-mod bounds;
-mod committed;
-mod fees;
-mod hostile;
-mod known;
-mod long;
-mod made;
-mod paid;
-mod plain;
-mod refusals;
 mod refused;
-mod spelled;
-mod ties;

@@ -1,4 +1,4 @@
-//! Tests of items, queries and filters in whole scripts through `run`, over memory, and of the work that workers share.
+//! Tests of the work that workers share in whole scripts through `run`, over memory.
 #![tactic(auto)]
 
 #[cfg(test)]

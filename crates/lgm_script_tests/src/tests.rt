@@ -1,11 +1,2 @@
-mod announcements;
-mod answers;
-mod closes;
-mod commits;
-mod filter_lines;
-mod limits;
-mod queries;
-mod query_lines;
 mod sharing;
-mod updates;
 mod workers;

@@ -1,4 +1,4 @@
-//! Tests of the program `lgm` through `start`: its words, statuses, and lines of faults.
+//! Tests of the program `lgm` through `start`: devices that fail, the lines of faults, and the number of workers.
 #![tactic(auto)]
 
 #[cfg(test)]

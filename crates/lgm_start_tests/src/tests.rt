@@ -13,28 +13,18 @@ use std::thread::Threads;
 
 pub const CHAIN: &str = "c1c1c1c1c1c1c1c1c1c1c1c1c1c1c1c1c1c1c1c1c1c1c1c1c1c1c1c1c1c1c1c1";
 
-/// The words of a command line, followed by one of any bytes.
+/// The words of a command line.
 #[derive(Drop)]
 pub struct Given<'a> {
     pub words: &'a [&'a str],
-    pub last: Option<&'a [u8]>,
-}
-
-impl Given<'_> {
-    fn word(&self, i: usize) -> Option<&[u8]> {
-        match self.words.get(i) {
-            Some(word) => Some(word.as_bytes()),
-            None if i == self.words.len() => self.last,
-            None => None,
-        }
-    }
 }
 
 impl Env for Given<'_> {
     fn arg(&self, i: usize, buf: &mut [u8]) -> Result<usize, FillError> {
-        let Some(word) = self.word(i) else {
+        let Some(word) = self.words.get(i) else {
             return Err(FillError::NotPresent);
         };
+        let word = word.as_bytes();
         let n = word.len();
         if n > buf.len() {
             return Err(FillError::TooLong);
@@ -92,7 +82,7 @@ fn start_with<Rt: Threads + Wait + Sync + RandomSource, R: Source, W: Sink, S: S
     writer: &mut W,
     errors: &mut S,
 ) -> u8 {
-    let given = Given { words, last: None };
+    let given = Given { words };
     match read_words(&(given, alloc)) {
         Ok(words) => start(rt, alloc, words.as_slice(), reader, writer, errors),
         Err(bad) => refuse(alloc, errors, &bad),
@@ -111,168 +101,6 @@ pub fn started<Rt: Threads + Wait + Sync + RandomSource>(
     let mut errors = MemorySink::new(alloc);
     let status = start_with(rt, alloc, words, &mut reader, &mut writer, &mut errors);
     (status, writer, errors)
-}
-
-#[test]
-fn words_are_checked_first(rt: HostRuntime) -> Result<(), Fail> {
-    let table: [(&[&str], u8); 13] = [
-        (&["lgm"], 2),
-        (&["lgm", "run"], 2),
-        (&["lgm", "run", "--chain", CHAIN, "--workers", "65"], 2),
-        (&["lgm", "run", "--chain", CHAIN, "--workers", "0"], 2),
-        (&["lgm", "run", "--chain", "zz", "--workers", "0"], 2),
-        (&["lgm", "run", "--chain", CHAIN, "--workers", "64"], 0),
-        (&["lgm", "run", "--chain", CHAIN], 0),
-        (&["lgm", "live"], 2),
-        (&["lgm", "live", "--chain", CHAIN, "--workers", "65"], 2),
-        (
-            &[
-                "lgm",
-                "live",
-                "--chain",
-                CHAIN,
-                "--known",
-                "00",
-                "--workers",
-                "64",
-            ],
-            0,
-        ),
-        (&["lgm", "--help"], 2),
-        (&["lgm", "run", "--version"], 2),
-        (&["lgm", "stop", "--chain", CHAIN], 2),
-    ];
-    for (given, want) in table {
-        let (status, writer, errors) = started(&rt, rt.alloc(), given, b"");
-        assert_eq!(rt; status, want, "at {given:?}");
-        assert_eq!(rt; errors.taken().is_empty(), want == 0, "at {given:?}");
-        assert!(rt;
-            !errors.taken().starts_with(b"lgm: bad chain"),
-            "at {given:?}"
-        );
-        assert!(rt; writer.taken().is_empty());
-    }
-    Ok(())
-}
-
-#[test]
-fn the_version_is_named(rt: HostRuntime) -> Result<(), Fail> {
-    let (status, writer, errors) = started(&rt, rt.alloc(), &["lgm", "--version"], b"");
-    assert_eq!(rt; status, 2);
-    assert_eq!(rt; errors.taken(), b"lgm 1.0\n".as_slice());
-    assert!(rt; writer.taken().is_empty());
-    Ok(())
-}
-
-#[test]
-fn help_ends_with_examples_and_the_docs(rt: HostRuntime) -> Result<(), Fail> {
-    let run = b"docs/questions.md the chains, `bad` and `no-route`.\n";
-    let live = b"docs/script.md says what is answered, under \"A map that grows\".\n";
-    for (command, end) in [("run", run.as_slice()), ("live", live.as_slice())] {
-        let (status, writer, errors) = started(&rt, rt.alloc(), &["lgm", command, "--help"], b"");
-        assert_eq!(rt; status, 2, "at {command}");
-        assert!(rt; errors.taken().ends_with(end), "at {command}");
-        assert!(rt; writer.taken().is_empty());
-    }
-    Ok(())
-}
-
-#[test]
-fn a_chain_has_64_digits(rt: HostRuntime) -> Result<(), Fail> {
-    for chain in ["zz", "", "c1", &CHAIN[1..], "0x"] {
-        let (status, writer, errors) = started(
-            &rt,
-            rt.alloc(),
-            &["lgm", "run", "--chain", chain],
-            b"",
-        );
-        assert_eq!(rt; status, 2, "at {chain}");
-        assert_eq!(rt;
-            errors.taken(),
-            b"lgm: bad chain\n".as_slice(),
-            "at {chain}"
-        );
-        assert!(rt; writer.taken().is_empty());
-    }
-    Ok(())
-}
-
-#[test]
-fn known_bits_have_2_to_512_digits(rt: HostRuntime) -> Result<(), Fail> {
-    let alloc = rt.alloc();
-    let mut longest = String::new(alloc);
-    for _ in 0..128 {
-        longest.push_str("0aF5")?;
-    }
-    let mut longer = longest.clone()?;
-    longer.push_str("00")?;
-    for (known, want) in [
-        ("00", 0),
-        ("0aF5", 0),
-        (longest.as_str(), 0),
-        (longer.as_str(), 2),
-        ("", 2),
-        ("0", 2),
-        ("0aF", 2),
-        ("zz", 2),
-        ("0x", 2),
-    ] {
-        let given = ["lgm", "run", "--known", known, "--chain", CHAIN];
-        let (status, writer, errors) = started(&rt, alloc, &given, b"");
-        assert_eq!(rt; status, want, "at {known}");
-        let line = if want == 0 { "" } else { "lgm: bad known\n" };
-        assert_eq!(rt; errors.taken(), line.as_bytes(), "at {known}");
-        assert!(rt; writer.taken().is_empty());
-    }
-    Ok(())
-}
-
-#[test]
-fn the_chain_comes_before_the_known_bits(rt: HostRuntime) -> Result<(), Fail> {
-    let given = ["lgm", "run", "--known", "0", "--chain", "zz"];
-    let (status, _, errors) = started(&rt, rt.alloc(), &given, b"");
-    assert_eq!(rt; status, 2);
-    assert_eq!(rt; errors.taken(), b"lgm: bad chain\n".as_slice());
-    Ok(())
-}
-
-/// A comment of 140,000 bytes after these lines is within the limit, and one more byte isn't.
-fn assert_limit<Rt: Abort + Threads + Wait + Sync + RandomSource>(
-    rt: &Rt,
-    alloc: Global,
-    command: &str,
-    lines: &[u8],
-    answers: &[u8],
-    at_fault: &[u8],
-) -> Result<(), Fail> {
-    let mut script = Vec::from_slice(alloc, lines)?;
-    for _ in 0..140_000 {
-        script.push(b'#')?;
-    }
-    let given = ["lgm", command, "--chain", CHAIN];
-    let (status, writer, errors) = started(rt, alloc, &given, script.as_slice());
-    assert_eq!(rt; status, 0);
-    assert_eq!(rt; writer.taken(), answers);
-    assert!(rt; errors.taken().is_empty());
-    script.push(b'#')?;
-    let (status, writer, errors) = started(rt, alloc, &given, script.as_slice());
-    assert_eq!(rt; status, 1);
-    assert_eq!(rt; writer.taken(), at_fault);
-    assert_eq!(rt; errors.taken(), b"lgm: line too long\n".as_slice());
-    Ok(())
-}
-
-#[test]
-fn a_fault_has_its_line(rt: HostRuntime) -> Result<(), Fail> {
-    let answers = b"1 commit 0\n".as_slice();
-    assert_limit(&rt, rt.alloc(), "run", b"commit\n", answers, answers)
-}
-
-// Nothing of a script is written before it was read whole.
-#[test]
-fn a_fault_of_live_has_its_line(rt: HostRuntime) -> Result<(), Fail> {
-    let answers = b"1 commit 0\n2 not-live\n".as_slice();
-    assert_limit(&rt, rt.alloc(), "live", b"commit\nq 00\n", answers, b"")
 }
 
 /// Asserts what `lgm run` writes between these devices, and to `errors`, when one of them fails.

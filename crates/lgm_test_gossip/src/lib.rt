@@ -20,4 +20,4 @@ pub use numbers::Numbers;
 pub use points::{point, repeated_point};
 pub use terms::{FREE, Terms};
 pub use update::Update;
-pub use writing::{CHAIN, OTHER_CHAIN, written};
+pub use writing::{CHAIN, written};

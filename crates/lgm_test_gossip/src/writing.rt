@@ -9,9 +9,6 @@ use std::alloc::{AllocError, Global};
 /// The chain of the tests.
 pub const CHAIN: ChainHash = ChainHash([0xc1; 32]);
 
-/// Another chain.
-pub const OTHER_CHAIN: ChainHash = ChainHash([0xd1; 32]);
-
 /// A signature.
 pub(crate) const ZEROS: [u8; 64] = [0; 64];
 

@@ -3,14 +3,12 @@
 #![tactic(auto)]
 
 mod devices;
-mod line;
+mod item;
 mod notation;
 mod runs;
-mod transcript;
 
 pub use devices::{FailingSink, FailingSource};
-pub use lgm_test_gossip::{FREE, Numbers, Terms};
-pub use line::{CHAIN, Line, OTHER_CHAIN, SECRET, item_of, script_of};
-pub use notation::spelled;
-pub use runs::{Differing, ended, find_differing, run_by, written};
-pub use transcript::text_of;
+pub use item::item_of;
+pub use lgm_test_gossip::Numbers;
+pub use notation::{CHAIN, spelled};
+pub use runs::{ended, run_by};

@@ -1,52 +1,45 @@
-//! A notation for scripts and their texts, in which names and messages stand for their digits.
+//! A notation for scripts and their texts, in which names and messages stand for their digits: that of
+//! `gossip/notation.py`, as far as these tests use it.
 //!
 //! | word | stands for |
 //! |---|---|
 //! | `A`, `B`, `C` | nodes: the byte 02 and 32 bytes 0a, 0b or 0c |
 //! | `P0` to `P255` | nodes: 02, 31 zero bytes and the number |
-//! | `03:0b` | a node by its first byte and the one that follows it 32 times |
-//! | `K`, `U` | a bitcoin key; a point whose first byte is 04 |
-//! | `H`, `X`, `S` | the chain, another chain, and the secret of payments |
+//! | `H`, `S` | the chain, and the secret of payments |
 //! | `ca(600000x1x0,A,B)` | a `channel_announcement` of a channel between two nodes |
 //! | `na(B,5)` | a `node_announcement` with a timestamp |
 //! | `cu(600000x1x0,0,5)` | a `channel_update` with channel_flags and a timestamp |
 //! | `[0105 H 0009]` | the bytes of these words, one after the other |
 //!
-//! After its fields a message may have others by their names: `chain=X`, `features=01`, `cut=1` for the bytes that are
-//! missing at its end, of a channel `key_2=U`, and of an update `message_flags=3`, `delta=10`, `min=0`, `base=200`,
-//! `millionths=2000` and `max=1000`. Signatures are zeros, bitcoin keys are `K`, and terms are those of [`FREE`].
+//! After its fields a message may have others by their names: `cut=1` for the bytes that are missing at its end,
+//! `features=01` of an announcement, and of an update `delta=10`, `base=200`, `millionths=2000` and `max=1000`. Signatures
+//! are zeros, and terms are those of [`FREE`].
 
-use crate::line::{CHAIN, OTHER_CHAIN, SECRET};
-use lgm_gossip::{Bytes, ChainHash, Point, Scid};
+use lgm_gossip::{Bytes, Point, Scid};
 use lgm_test_gossip::{Channel, FREE, Node, Terms, Update, point, repeated_point};
 use std::alloc::{AllocError, Global};
 
-/// Points by their first byte and the one that follows it 32 times.
-const POINTS: [(&str, u8, u8); 5] = [
-    ("A", 2, 0x0a),
-    ("B", 2, 0x0b),
-    ("C", 2, 0x0c),
-    ("K", 2, 0xee),
-    ("U", 4, 0x0c),
-];
+/// The chain of the test messages, in digits.
+pub const CHAIN: &str = "c1c1c1c1c1c1c1c1c1c1c1c1c1c1c1c1c1c1c1c1c1c1c1c1c1c1c1c1c1c1c1c1";
+
+/// The secret of all payments.
+const SECRET: &str = "1111111111111111111111111111111111111111111111111111111111111111";
+
+/// Nodes by the byte that they have 32 times.
+const NODES: [(&str, u8); 3] = [("A", 0x0a), ("B", 0x0b), ("C", 0x0c)];
 
 /// Other names, with their digits.
-const DIGITS: [(&str, &str); 3] = [("H", CHAIN), ("X", OTHER_CHAIN), ("S", SECRET)];
+const DIGITS: [(&str, &str); 2] = [("H", CHAIN), ("S", SECRET)];
 
 /// The point that a name stands for.
 fn point_of(word: &str) -> Option<Point> {
-    for (name, first, byte) in POINTS {
+    for (name, byte) in NODES {
         if word == name {
-            return Some(repeated_point(first, byte));
+            return Some(repeated_point(2, byte));
         }
     }
-    if let Some(number) = word.strip_prefix("P") {
-        return Some(point(u16::from(number.parse::<u8>().ok()?)));
-    }
-    let (first, byte) = word.split_once(':')?;
-    let first = u8::from_str_radix(first, 16).ok()?;
-    let byte = u8::from_str_radix(byte, 16).ok()?;
-    Some(repeated_point(first, byte))
+    let number = word.strip_prefix("P")?;
+    Some(point(u16::from(number.parse::<u8>().ok()?)))
 }
 
 /// The digits that a name stands for.
@@ -117,31 +110,18 @@ fn features(alloc: Global, inside: &str) -> Result<Vec<u8>, AllocError> {
     }
 }
 
-/// The chain of a message.
-fn chain(inside: &str) -> ChainHash {
-    if given(inside, "chain") == Some("X") {
-        lgm_test_gossip::OTHER_CHAIN
-    } else {
-        lgm_test_gossip::CHAIN
-    }
-}
-
 fn announced(alloc: Global, inside: &str) -> Result<Option<Bytes>, AllocError> {
     let mut fields = inside.split(',');
     let scid = scid(fields.next());
     let first = point_of(fields.next().unwrap_or(""));
     let second = point_of(fields.next().unwrap_or(""));
-    let key_2 = point_of(given(inside, "key_2").unwrap_or("K"));
-    let (Some(first), Some(second), Some(key_2)) = (first, second, key_2) else {
+    let (Some(first), Some(second)) = (first, second) else {
         return Ok(None);
     };
     let features = features(alloc, inside)?;
-    let usual = Channel::new(scid, (first, second));
     let channel = Channel {
-        chain: chain(inside),
-        keys: (usual.keys.0, key_2),
         features: features.as_slice(),
-        ..usual
+        ..Channel::new(scid, (first, second))
     };
     Ok(Some(channel.bytes(alloc)?))
 }
@@ -168,8 +148,6 @@ fn set_term(terms: &mut Terms, field: &str) {
     let value = Some(value);
     if name == "delta" {
         terms.delta = u16::try_from(number(value)).unwrap_or(0);
-    } else if name == "min" {
-        terms.min = number(value);
     } else if name == "base" {
         terms.base = short_number(value);
     } else if name == "millionths" {
@@ -194,8 +172,6 @@ fn updated(alloc: Global, inside: &str) -> Result<Bytes, AllocError> {
     let channel_flags = byte(fields.next());
     let timestamp = short_number(fields.next());
     let update = Update {
-        chain: chain(inside),
-        message_flags: byte(Some(given(inside, "message_flags").unwrap_or("1"))),
         terms: terms(inside),
         ..Update::new(scid, channel_flags, timestamp)
     };

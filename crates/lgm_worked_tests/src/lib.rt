@@ -1,4 +1,5 @@
-//! Worked examples of scripts with their texts, in the notation of `lgm_test_scripts`, by 1, 3 and 64 workers.
+//! Tests of example scripts, in the notation of `lgm_test_scripts`: devices that fail, memory that is refused, the pieces
+//! that workers share, and the views of the networks.
 #![tactic(auto)]
 
 #[cfg(test)]

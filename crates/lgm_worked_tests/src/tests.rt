@@ -1,9 +1,4 @@
 mod examples;
 mod faults;
-mod filters;
-mod items;
-mod longest;
-mod payments;
 mod pieces;
-mod queries;
 mod views;

@@ -1,8 +1,6 @@
 //! Devices that fail, and memory that is refused, at each place of two examples.
 
-use super::examples::Example;
-use super::payments::FEES;
-use super::queries::IDS;
+use super::examples::{Example, FEES, IDS};
 use lgm_graph::Known;
 use lgm_par::Open;
 use lgm_server::RunFault;

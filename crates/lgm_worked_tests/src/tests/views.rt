@@ -1,11 +1,9 @@
 //! Networks of the examples' items: after each commit the view has the edges of the map, and an item for which memory is
 //! refused changes neither.
 
-use super::examples::Example;
-use super::filters::NEWS;
-use super::items::{BANS, CLOSES, LONELY, TIMESTAMPS};
-use super::payments::{CARRIED, COMMITTED, FEWER, KNOWN};
-use super::queries::IDS;
+use super::examples::{
+    BANS, CARRIED, CLOSES, COMMITTED, FEWER, IDS, KNOWN, LONELY, NEWS, TIMESTAMPS,
+};
 use lgm_check::{Evidence, Refusal};
 use lgm_gossip::{ChainHash, Point, Scid};
 use lgm_graph::{Known, Network, View};
@@ -200,37 +198,37 @@ fn last_edges<Rt: Abort>(
     Ok(kept_edges(alloc, &network)?.len())
 }
 
-/// That an example's network has this many edges in the end.
+/// That a script's network has this many edges in the end.
 fn assert_edges<Rt: Abort>(
     rt: &Rt,
     alloc: Global,
     known: &Known,
-    example: &Example,
+    script: &str,
     edges: usize,
 ) -> Result<(), Fail> {
-    let last = last_edges(rt, alloc, known, example.script)?;
-    assert_eq!(rt; last, edges, "{}", example.name);
+    let last = last_edges(rt, alloc, known, script)?;
+    assert_eq!(rt; last, edges, "{script}");
     Ok(())
 }
 
 #[test]
 fn views_have_the_edges_of_their_maps(rt: HostRuntime) -> Result<(), Fail> {
     let (alloc, known) = (rt.alloc(), Known::all());
-    assert_edges(&rt, alloc, &known, &COMMITTED, 1)?;
-    assert_edges(&rt, alloc, &known, &FEWER, 5)?;
-    assert_edges(&rt, alloc, &known, &CARRIED, 2)?;
-    assert_edges(&rt, alloc, &known, &NEWS, 1)?;
-    assert_edges(&rt, alloc, &known, &TIMESTAMPS, 2)
+    assert_edges(&rt, alloc, &known, COMMITTED, 1)?;
+    assert_edges(&rt, alloc, &known, FEWER, 5)?;
+    assert_edges(&rt, alloc, &known, CARRIED, 2)?;
+    assert_edges(&rt, alloc, &known, NEWS, 1)?;
+    assert_edges(&rt, alloc, &known, TIMESTAMPS, 2)
 }
 
 /// No channel with an update is left.
 #[test]
 fn closes_and_bans_leave_no_edges(rt: HostRuntime) -> Result<(), Fail> {
     let (alloc, known) = (rt.alloc(), Known::all());
-    assert_edges(&rt, alloc, &known, &IDS, 0)?;
-    assert_edges(&rt, alloc, &known, &CLOSES, 0)?;
-    assert_edges(&rt, alloc, &known, &BANS, 0)?;
-    assert_edges(&rt, alloc, &known, &LONELY, 0)
+    assert_edges(&rt, alloc, &known, IDS.script, 0)?;
+    assert_edges(&rt, alloc, &known, CLOSES, 0)?;
+    assert_edges(&rt, alloc, &known, BANS, 0)?;
+    assert_edges(&rt, alloc, &known, LONELY, 0)
 }
 
 /// There is no edge to a node while it wants what isn't known.
@@ -238,10 +236,10 @@ fn closes_and_bans_leave_no_edges(rt: HostRuntime) -> Result<(), Fail> {
 fn views_follow_what_nodes_want(rt: HostRuntime) -> Result<(), Fail> {
     let alloc = rt.alloc();
     let none = Known::bits(alloc, &[0])?;
-    let (wanting, _) = KNOWN.script.split_once("commit\n").ok_or("no commit")?;
+    let (wanting, _) = KNOWN.split_once("commit\n").ok_or("no commit")?;
     assert_eq!(rt; last_edges(&rt, alloc, &none, wanting)?, 1);
-    assert_edges(&rt, alloc, &none, &KNOWN, 2)?;
-    assert_edges(&rt, alloc, &Known::all(), &KNOWN, 2)
+    assert_edges(&rt, alloc, &none, KNOWN, 2)?;
+    assert_edges(&rt, alloc, &Known::all(), KNOWN, 2)
 }
 
 /// Offers the item of a line. If memory is refused for it, it is offered again. Whether that left all as it was.
@@ -255,10 +253,10 @@ fn take_or_again(alloc: Global, network: &mut Network, line: &str) -> Result<boo
     Ok(after.is(&before))
 }
 
-/// Offers the items of an example. Whether each refusal of memory left all as it was, and the view has the edges of the
-/// map in the end.
-fn keeps_its_edges(alloc: Global, example: &Example) -> Result<bool, AllocError> {
-    let script = spelled(alloc, example.script)?;
+/// Offers the items of a script. Whether each refusal of memory left all as it was, and the view has the edges of the map
+/// in the end.
+fn keeps_its_edges(alloc: Global, script: &str) -> Result<bool, AllocError> {
+    let script = spelled(alloc, script)?;
     let mut network = empty(alloc, &Known::all())?;
     let mut same = true;
     for line in script.lines() {
@@ -270,9 +268,9 @@ fn keeps_its_edges(alloc: Global, example: &Example) -> Result<bool, AllocError>
 /// To be run with each allocation refused in turn.
 #[test]
 fn refused_memory(rt: HostRuntime) {
-    for example in [FEWER, IDS, NEWS, BANS, LONELY] {
-        if let Ok(same) = keeps_its_edges(rt.alloc(), &example) {
-            assert!(rt; same, "{}", example.name);
+    for script in [FEWER, IDS.script, NEWS, BANS, LONELY] {
+        if let Ok(same) = keeps_its_edges(rt.alloc(), script) {
+            assert!(rt; same, "{script}");
         }
     }
 }
