@@ -9,7 +9,7 @@ from typing import NamedTuple
 
 sys.path.insert(0, str(Path(__file__).resolve().parent.parent))
 
-from gossip.notation import CHAINS, NAMES, SECRET, numbered, span, spelled
+from gossip.notation import CHAINS, NAMES, numbered, span, spelled
 
 WORKERS = ("1", "3", "64")
 INDENT = "    "
@@ -23,18 +23,32 @@ class Fault(Exception):
 
 
 class Line(NamedTuple):
-    """A line of the file, with its number there and, for a line of a script, the lines of its answers."""
+    """A line of a script in a file, with its number there, and the numbers and texts of the lines that answer it."""
 
     number: int
     text: str
-    answers: tuple = ()
+    answers: list
 
 
 class Group:
-    """Lines that come one after the other for each number: for one alone if nothing is repeated."""
+    """Lines of the file that are in the script `once`, come together for `each` number, or are the same so many `times`."""
 
     def __init__(self, kind, numbers):
         self.kind, self.numbers, self.lines = kind, numbers, []
+
+    def add_to(self, script):
+        """Adds the lines to a script."""
+        if self.kind == "each":
+            for number in self.numbers:
+                for line in self.lines:
+                    for text, answers in lines_of(with_number(line, number)):
+                        script.add(text, answers)
+            return
+        found = lines_of(self.lines[0])
+        if self.kind == "times" and len(found) > 1:
+            raise ValueError("two lines aren't the same line")
+        for text, answers in found:
+            script.add(text, answers, len(self.numbers))
 
 
 class Run(NamedTuple):
@@ -46,26 +60,19 @@ class Run(NamedTuple):
 
 
 class Script:
-    """The bytes of a script, and the lines that it is answered by, each with the number of its line in the file."""
+    """The bytes of a script, and the lines that it is answered by, each behind the number of its line in the file. Of
+    lines of the file that are there once `numbers` has the numbers in the script."""
 
     def __init__(self):
         self.text, self.answers, self.count, self.numbers = bytearray(), [], 0, {}
 
-    def add(self, line, answers):
-        """Adds a line."""
-        self.text += line
-        self.text += b"\n"
-        self.count += 1
-        self.answers += [(place, b"%d %b\n" % (self.count, answer)) for place, answer in answers]
-
-    def add_often(self, line, answers, times):
-        """Adds the same line so often."""
+    def add(self, line, answers, times=1):
+        """Adds a line with its answers so often."""
+        self.text += (line + b"\n") * times
         if answers:
-            for _ in range(times):
-                self.add(line, answers)
-        else:
-            self.text += (line + b"\n") * times
-            self.count += times
+            for number in range(self.count + 1, self.count + 1 + times):
+                self.answers += [(place, b"%d %b\n" % (number, answer)) for place, answer in answers]
+        self.count += times
 
     def output(self):
         """What is written."""
@@ -94,25 +101,17 @@ def is_open(text):
     return text.startswith("open ")
 
 
-def add_line(script, line, number):
-    """Adds what a line of the file stands for, with a number in its places."""
-    text = numbered(line.text, number)
-    if is_open(text):
-        for one in opened(text):
-            script.add(spelled(one).encode(), [(line.number, b"accepted")])
-        return
-    answers = [(place, spelled(numbered(answer, number)).encode()) for place, answer in line.answers]
-    script.add(literal(text) if text.startswith('"') else spelled(text).encode(), answers)
+def lines_of(line):
+    """What a line of the file stands for: lines of the script, each with its answers."""
+    if is_open(line.text):
+        return [(spelled(text).encode(), [(line.number, b"accepted")]) for text in opened(line.text)]
+    answers = [(number, spelled(text).encode()) for number, text in line.answers]
+    return [(literal(line.text) if line.text.startswith('"') else spelled(line.text).encode(), answers)]
 
 
-def add_times(script, line, times):
-    """Adds a line of the file so often."""
-    once = Script()
-    add_line(once, line, 0)
-    if once.count != 1:
-        raise ValueError("these are two lines")
-    answers = [(place, answer[2:-1]) for place, answer in once.answers]
-    script.add_often(bytes(once.text[:-1]), answers, times)
+def with_number(line, number):
+    """A line of the file with a number in its places."""
+    return Line(line.number, numbered(line.text, number), [(place, numbered(text, number)) for place, text in line.answers])
 
 
 def words_of(text):
@@ -188,23 +187,22 @@ class Case:
         others = sorted({"command", "known", "workers", "chain"} & self.options.keys())
         if "words" in self.options and others:
             raise self.fault(self.place("words"), f"the words are given, and so is {others[0]}")
+        try:
+            self.runs()
+        except ValueError as fault:
+            raise self.fault(self.place("words"), fault) from fault
 
     def script(self):
         """The script, and its answers."""
         script = Script()
         for group in self.groups:
-            for line in group.lines:
-                if group.kind == "once" and not is_open(line.text):
-                    script.numbers[line.number] = script.count + 1
+            line = group.lines[0]
+            if group.kind == "once" and not is_open(line.text):
+                script.numbers[line.number] = script.count + 1
             try:
-                if group.kind == "times":
-                    add_times(script, group.lines[0], len(group.numbers))
-                    continue
-                for number in group.numbers:
-                    for line in group.lines:
-                        add_line(script, line, number)
+                group.add_to(script)
             except ValueError as fault:
-                raise self.fault(group.lines[0].number, fault) from fault
+                raise self.fault(line.number, fault) from fault
         if "no" in self.options:
             del script.text[-1:]
         return script
@@ -217,8 +215,11 @@ class Case:
         for chain, known, workers in product(self.values("chain", "H"), self.values("known", "all"),
                                              self.values("workers", *WORKERS)):
             words = [command, "--chain", NAMES.get(chain, chain), "--workers", workers]
-            name = f"chain {chain}, known {known}, {workers} workers"
-            runs.append(Run(words if known == "all" else [*words, "--known", known], name, workers == "3"))
+            if known != "all":
+                words += ["--known", known]
+            varied = {"chain": chain, "known": known}
+            name = [f"--workers {workers}", *(f"--{it} {varied[it]}" for it in varied if it in self.options)]
+            runs.append(Run(words, " ".join(name), workers == "3"))
         return runs
 
     def error_fault(self, error):
@@ -227,12 +228,11 @@ class Case:
         if wanted is None:
             return "" if not error else "standard error isn't empty"
         how, _, text = wanted.partition(" ")
-        text = text.encode()
         if how == "begins":
-            return "" if error.startswith(text) else f"standard error doesn't begin {text!r}"
+            return "" if error.startswith(text.encode()) else f"standard error doesn't begin so: {text}"
         if how == "ends":
-            return "" if error.endswith(text + b"\n") else f"standard error doesn't end {text!r}"
-        return "" if error == wanted.encode() + b"\n" else f"standard error isn't {wanted!r}"
+            return "" if error.endswith(text.encode() + b"\n") else f"standard error doesn't end so: {text}"
+        return "" if error == wanted.encode() + b"\n" else f"standard error isn't this: {wanted}"
 
 
 def is_list(pattern):
@@ -252,8 +252,8 @@ OPTIONS = {
 }
 
 
-def add(cases, path, number, text):
-    """Adds what a line of a file says to its cases."""
+def take(cases, path, number, text):
+    """Takes what a line of a file says, into its cases."""
     where = cases[-1] if cases else Case(path, number, "")
     if text != text.rstrip():
         raise where.fault(number, "a space at the end, which isn't seen: quote the line")
@@ -276,7 +276,7 @@ def cases_of(path):
     lines = path.read_text(encoding="utf-8").split("\n")
     cases = []
     for number, text in enumerate(lines, 1):
-        add(cases, path, number, text)
+        take(cases, path, number, text)
     if not cases:
         raise Fault(f"{path.name}: there is no case")
     if lines[0].startswith("== ") or not lines[0]:
@@ -286,21 +286,20 @@ def cases_of(path):
     return cases
 
 
-def shortened(answer, words):
-    """An answer in the notation, as far as its words stand in the case, or have the secret."""
-    parts = []
-    for part in answer.split(" "):
-        if SECRET.hex() in part and part not in words:
-            part = "[" + part.replace(SECRET.hex(), " S ").strip() + "]"
-        parts.append(words.get(part, part))
-    return " ".join(parts)
+def shortened(word, words):
+    """A word of an answer in the notation, as far as it stands in the case, or has a chain or the secret."""
+    if word in words:
+        return words[word]
+    text = word
+    for name in (*CHAINS, "S"):
+        text = text.replace(NAMES[name], f" {name} ")
+    return word if text == word else f"[{text.strip()}]"
 
 
 def updated(case, output):
     """The answers that an output has for lines of the file that are there once, by the numbers of these lines. Answers
     that are right stay as they are written."""
-    script, given, found = case.script(), {}, {}
-    words = {}
+    script, given, found, words = case.script(), {}, {}, {}
     for group in case.groups:
         for line in group.lines:
             given[line.number] = [text for _, text in line.answers]
@@ -311,6 +310,7 @@ def updated(case, output):
         found.setdefault(int(number), []).append(text)
     answers = {}
     for place, number in script.numbers.items():
-        texts, known = found.get(number, []), {spelled(text): text for text in given[place]}
-        answers[place] = [known.get(text, shortened(text, words)) for text in texts]
+        known = {spelled(text): text for text in given[place]}
+        answers[place] = [known.get(text) or " ".join([shortened(word, words) for word in text.split(" ")])
+                          for text in found.get(number, [])]
     return answers

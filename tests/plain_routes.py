@@ -232,15 +232,11 @@ def difference(found, text):
 
 
 def objections(program, name, found):
-    """What is wrong with the texts of a case."""
+    """What is wrong with the texts of a case, and its script."""
     script, want = text_of(found)
-    wrong = []
-    for workers in WORKERS:
-        text = written(program, script, workers)
-        if text != want:
-            lines = "\n".join(f"    {line}" for line, _ in found)
-            wrong.append(f"{name}, {workers} workers: {difference(found, text)}\nof\n{lines}")
-    return wrong
+    texts = {workers: written(program, script, workers) for workers in WORKERS}
+    wrong = [f"{name}, {workers} workers: {difference(found, text)}" for workers, text in texts.items() if text != want]
+    return [*wrong, "of the script", *(f"    {line}" for line, _ in found)] if wrong else []
 
 
 def convex(step, number):

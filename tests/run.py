@@ -14,7 +14,7 @@ import sys
 from pathlib import Path
 
 TOP = Path(__file__).resolve().parent.parent
-ALONE = ("tests/pages.py", "tests/test_build.py", "tests/test_all.py", "tests/test_exports.py",
+ALONE = ("tests/pages.py", "tests/test_build.py", "tests/test_all.py", "tests/test_exports.py", "tests/test_texts.py",
          "gossip/test_messages.py", "gossip/test_notation.py", "tests/memory.py", "examples/python/test_lgm.py",
          "examples/network/test_plots.py")
 WITH_PROGRAM = ("examples/tools/test_why.py", "examples/tools/test_client.py", "examples/network/test_network.py",

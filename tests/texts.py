@@ -43,10 +43,10 @@ it has less than 20,000 of them. The status has to be 0 and standard error empty
   the whole of it.
 - `- no end`: without a line feed behind the last line.
 
-Where a run differs, a report says the file and its line. `--only` runs the cases that have a word in the name of their file
-or in their sentence. `--update NAME` runs nothing but writes the answers of the program into that file, for whoever then
-reads each change: answers of lines that are there once; statuses, errors and what is repeated stay as they are. PROGRAM is
-./lgm if left out.
+Where a run differs, a report says the file, its line, and both texts. `--only` runs the cases that have a word in the name
+of their file or in their sentence. `--update NAME` compares nothing, but writes the answers of the program into that file,
+for whoever then reads each change: the answers of lines that are there once; statuses, errors and the answers of repeated
+lines stay as they are. PROGRAM is ./lgm if left out.
 """
 
 import argparse
@@ -115,32 +115,33 @@ def output_fault(case, script, output):
     return f"{number}: expected\n    {shown(wanted, place)}\nand found\n    {shown(found, place)}"
 
 
-def faults_of(case, script, end):
-    """What is wrong with an ended run of a case, each behind the number of a line of the file."""
+def faults_of(program, case, script, run):
+    """What is wrong with a run of a case, each behind the number of a line of the file."""
     status = int(case.value("status", "0"))
+    try:
+        end = ended(program, run, bytes(script.text))
+    except subprocess.TimeoutExpired:
+        yield f"{case.number}: it takes more than {SECONDS} s"
+        return
     if end.returncode != status:
         yield f"{case.place('status')}: status {end.returncode}, not {status}"
     if why := case.error_fault(end.stderr):
-        yield f"{case.place('error')}: {why}, but\n    {shown(end.stderr, 0)}"
+        yield f"{case.place('error')}: {why}\nbut\n    {shown(end.stderr, 0)}"
     if why := output_fault(case, script, end.stdout):
         yield why
 
 
 def check(program, case):
     """Runs a case, and returns what is wrong with it."""
+    wrong = {}
     try:
-        script, wrong = case.script(), []
+        script = case.script()
         for run in case.runs():
-            try:
-                end = ended(program, run, bytes(script.text))
-            except subprocess.TimeoutExpired:
-                wrong.append(f"{case.path.name}:{case.number}: {run.name}: it takes more than {SECONDS} s")
-                continue
-            wrong += [f"{case.path.name}:{why}\n  in \"{case.sentence}\", {run.name}"
-                      for why in faults_of(case, script, end)]
-        return wrong
-    except (Fault, ValueError) as fault:
+            for why in faults_of(program, case, script, run):
+                wrong.setdefault(why, []).append(run.name)
+    except Fault as fault:
         return [str(fault)]
+    return [f"{case.path.name}:{why}\nin \"{case.sentence}\" by {', '.join(names)}" for why, names in wrong.items()]
 
 
 def update(program, path):
@@ -184,7 +185,10 @@ def main():
     given = parser.parse_args()
     program = str(Path(given.program).resolve())
     if given.update:
-        update(program, SCRIPTS / f"{given.update.removesuffix('.test')}.test")
+        try:
+            update(program, SCRIPTS / f"{given.update.removesuffix('.test')}.test")
+        except Fault as fault:
+            sys.exit(str(fault))
         return
     cases, wrong = chosen(given.only)
     print(*wrong, sep="\n", end="\n" if wrong else "")
