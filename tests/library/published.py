@@ -65,7 +65,7 @@ def take_turns(holds):
 
 @test
 def networks_that_take_turns():
-    """A published map has what was accepted since, if nobody has the one that catches up for it any more."""
+    """A published map that nobody has any more catches up, and is published again."""
     take_turns(holds=False)
 
 
