@@ -23,63 +23,18 @@ import sys
 from collections import Counter
 from concurrent.futures import ThreadPoolExecutor
 from pathlib import Path
-from typing import NamedTuple
 
 HERE = Path(__file__).resolve().parent
 sys.path.insert(0, str(HERE.parent))
 
 from gossip.notation import NAMES, TERMS, spelled
+from plain_walks import EXPIRY, MOST_CHANNELS, Payment, Road, Terms, best, pair, usable
 
 WORKERS = (1, 3, 64)
 SECONDS = 20  # for each run, which takes less than one
-MOST_CHANNELS = 20
-EXPIRY = 700_000  # of each payment
 GROUP, ALONE = 6, 3  # payments of a random network
 LENGTHS = range(4)  # numbers of channels that have to occur, 0 where there is no route
 OFTEN = 0.01  # of the payments, each of them
-
-
-class Terms(NamedTuple):
-    """What a direction asks for: a delta in blocks, amounts in msat."""
-
-    delta: int = TERMS["delta"]
-    least: int = TERMS["min"]
-    base: int = TERMS["base"]
-    millionths: int = TERMS["millionths"]
-    most: int = TERMS["max"]
-
-    def needed(self, amount):
-        """What its node has to be sent, if it forwards an amount."""
-        return amount + self.base + amount * self.millionths // 1_000_000
-
-
-class Road(NamedTuple):
-    """A direction of the channel of a block."""
-
-    block: int
-    start: int
-    end: int
-    terms: Terms = Terms()
-
-
-class Payment(NamedTuple):
-    """What is asked for: nodes, and msat."""
-
-    payer: int
-    payee: int
-    amount: int
-
-    def line(self):
-        """Its line."""
-        return f"route P{self.payer} P{self.payee} {self.amount} {EXPIRY} S"
-
-
-class Step(NamedTuple):
-    """A channel of a route, with the amount that it carries, and when that expires."""
-
-    block: int
-    amount: int
-    expiry: int
 
 
 def channel_line(block, start, end):
@@ -94,10 +49,9 @@ def update_line(road):
     return f"m cu({road.block}x0x0,{int(road.end < road.start)},1,{terms}) P{road.start} -"
 
 
-def pair(numbers, nodes):
-    """Two nodes, the lesser one first."""
-    second = numbers.randrange(1, nodes)
-    return numbers.randrange(second), second
+def payment_line(payment):
+    """Asks for a payment."""
+    return f"route P{payment.payer} P{payment.payee} {payment.amount} {EXPIRY} S"
 
 
 def random_terms(numbers):
@@ -127,36 +81,6 @@ def random_payment(numbers):
     ends = pair(numbers, 5)
     payer, payee = ends if numbers.randrange(2) else reversed(ends)
     return Payment(payer, payee, numbers.choice((1, 999, 1000, 1000, 1000, 1001)))
-
-
-def walks(roads, payment, walk=()):
-    """All walks from the payer to the payee that begin with this one, and come to no node twice."""
-    here = walk[-1].end if walk else payment.payer
-    if here == payment.payee:
-        yield walk
-        return
-    seen = {payment.payer, *(road.end for road in walk)}
-    for road in roads:
-        if road.start == here and road.end not in seen and len(walk) < MOST_CHANNELS:
-            yield from walks(roads, payment, (*walk, road))
-
-
-def steps_of(walk, payment):
-    """The steps of a walk from the payer on; none if one of its channels can't carry its amount."""
-    steps, amount, expiry = [], payment.amount, EXPIRY
-    for road in reversed(walk):
-        if payment.amount < road.terms.least or road.terms.most < amount:
-            return None
-        steps.append(Step(road.block, amount, expiry))
-        amount = road.terms.needed(amount)
-        expiry += road.terms.delta
-    return steps[::-1]
-
-
-def best_steps(roads, payment):
-    """The best steps: what the payer sends decides, then their number, then the ids from the payer on."""
-    every = [steps for walk in walks(roads, payment) if (steps := steps_of(walk, payment))]
-    return min(every, key=lambda steps: (steps[0].amount, len(steps), [step.block for step in steps]), default=[])
 
 
 def record(kind, number, front=""):
@@ -199,7 +123,7 @@ def case(roads, payments):
     found.append(commit)
     for count, payment in enumerate(payments):
         found += [commit] * (count >= GROUP)
-        found.append((payment.line(), answer(best_steps(roads, payment))))
+        found.append((payment_line(payment), answer(best(usable(roads, payment)))))
     return found
 
 
@@ -290,7 +214,7 @@ def least(roads, last):
 def hostile_objections(program, last, beside, charges):
     """What is wrong with the routes of three payments over a hostile network, two together and one alone."""
     roads = hostile_roads(last, beside, charges)
-    pay = Payment(0, last, SENT).line()
+    pay = payment_line(Payment(0, last, SENT))
     script, _ = text_of([(line, ()) for line in (*network_lines(roads), "commit", pay, pay, "commit", pay)])
     sent, count = least(roads, last)
     want = f" route {sent} {EXPIRY + TERMS['delta'] * (count - 1)} {count}"
