@@ -74,6 +74,12 @@ def test_calls(out):
     report("calls", subprocess.run(words, check=False).returncode == 0)
 
 
+def test_plain_overlays(out):
+    """Payments over random overlays, and within delays, have the routes that a plain program finds."""
+    words = [sys.executable, TOP / "tests" / "plain_overlays.py", out / "liblgm.so"]
+    report("plain overlays", subprocess.run(words, check=False).returncode == 0)
+
+
 def test_installed(prefix, folder):
     """A program is built by what lgm.pc says, and runs with the shared object of the header's version."""
     version = re.search(r"#define LGM_VERSION (\d+)", (TOP / "include" / "lgm.h").read_text())[1]
@@ -608,6 +614,7 @@ def main():
         sys.dont_write_bytecode = True
         test_exports(out)
         test_calls(out)
+        test_plain_overlays(out)
         test_installed(prefix, out)
         test_c(out)
         test_faults(out)
