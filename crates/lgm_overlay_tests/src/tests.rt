@@ -1,4 +1,3 @@
-mod beside;
 mod delays;
 mod edges;
 mod exclusions;
@@ -7,6 +6,4 @@ mod labels;
 mod made;
 mod memory;
 mod paid;
-mod plain;
-mod random;
 mod refusals;
