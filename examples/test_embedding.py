@@ -68,6 +68,12 @@ def test_exports(out):
     report("exports", subprocess.run(words, check=False).returncode == 0)
 
 
+def test_calls(out):
+    """Each call returns and writes what it should, with ample memory and at each of its faults."""
+    words = [sys.executable, TOP / "tests" / "library" / "run.py", out / "liblgm.so"]
+    report("calls", subprocess.run(words, check=False).returncode == 0)
+
+
 def test_installed(prefix, folder):
     """A program is built by what lgm.pc says, and runs with the shared object of the header's version."""
     version = re.search(r"#define LGM_VERSION (\d+)", (TOP / "include" / "lgm.h").read_text())[1]
@@ -229,7 +235,7 @@ def test_python():
 
     words = {number: ctypes.create_string_buffer(24) for number in range(1, 108)}
     for number, word in words.items():
-        lgm._load().lgm_word(ctypes.c_uint32(number), word)
+        lgm._load().lgm_word(number, word)
     words = {number: word.value.decode() for number, word in words.items() if word.value}
     report("lgm.py, words", words == {number: kind.word for number, kind in lgm._FAULTS.items()})
     for workload in ("routes", "queries"):
@@ -601,6 +607,7 @@ def main():
         os.environ["LGM_LIBRARY"] = str(out / "liblgm.so")
         sys.dont_write_bytecode = True
         test_exports(out)
+        test_calls(out)
         test_installed(prefix, out)
         test_c(out)
         test_faults(out)

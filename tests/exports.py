@@ -185,8 +185,8 @@ def layout_differs(sources):
 
 
 def source_text():
-    """The sources of the crate, without its tests."""
-    return "\n".join(path.read_text() for path in sorted(SOURCES.glob("*.rt")) if path.name != "tests.rt")
+    """The sources of the crate."""
+    return "\n".join(path.read_text() for path in sorted(SOURCES.glob("*.rt")))
 
 
 def main():

@@ -31,9 +31,10 @@ BYTES, AT = ctypes.c_char_p, ctypes.c_void_p
 SIZE, U32, U64 = ctypes.c_size_t, ctypes.c_uint32, ctypes.c_uint64
 ANSWERING = [AT, BYTES, SIZE, AT, SIZE, AT]
 
-# The calls of the library that are used here, each with its result and its arguments.
+# The calls of the header, each with its result and its arguments.
 CALLS = {
     "lgm_version": (U32, []),
+    "lgm_word": (None, [U32, AT]),
     "lgm_open": (U32, [AT, BYTES, ctypes.c_bool, BYTES, SIZE, BYTES]),
     "lgm_free": (None, [AT]),
     "lgm_offer": (U32, [AT, BYTES, SIZE, U32, BYTES, U32, U64]),
@@ -41,6 +42,7 @@ CALLS = {
     "lgm_close_channel": (U32, [AT, U64]),
     "lgm_ban": (U32, [AT, BYTES]),
     "lgm_count": (SIZE, [AT]),
+    "lgm_route": (U32, [AT, BYTES, AT, SIZE, AT, SIZE, AT]),
     "lgm_route_over": (U32, [AT, BYTES, BYTES, SIZE, BYTES, SIZE, BYTES, SIZE, ctypes.c_uint16, AT, SIZE, AT, SIZE, AT]),
     "lgm_query": (U32, ANSWERING),
     "lgm_filter": (U32, ANSWERING),

@@ -31,8 +31,6 @@ mod raw_box;
 mod routes;
 mod search;
 mod stored_messages;
-#[cfg(test)]
-mod tests;
 mod turns;
 mod verdict;
 mod wanted;

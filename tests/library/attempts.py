@@ -1,0 +1,160 @@
+"""Payments over what a payer knows beside the map, in a map that changes and in a published one. The numbers are worked out
+by hand, from docs/protocol.md.
+"""
+
+from calls import A, B, HOP, LENGTHS, NUMBER, PAYLOAD, PAYMENT, SECRET, Hop, at, free, library, opened, paid, published, test
+from lgm_library import ANY_DELAY, EDGE, LIMIT, MOST_HOPS, MOST_PAYLOADS
+
+C, D = b"\4" * 33, b"\5" * 33
+DIRECT = 0, 1, NUMBER, 10_000, 700_000  # the answer over the channel of the map alone
+
+
+def refusal(number):
+    """The answer that only has a number."""
+    return number, 7, 0, 0, 0
+
+
+def edge(scid, start, end, base, delta):
+    """An edge that carries any amount."""
+    return EDGE.pack(scid, 0, 2**64 - 1, base, 0, delta, start, end)
+
+
+def limit(scid, start, most_msat):
+    """What an edge carries at most."""
+    return LIMIT.pack(scid, most_msat, start)
+
+
+def route_over(handle, payee, amount_msat=10_000, edges=b"", limits=b"", silent=b"", most_delay=ANY_DELAY,
+               hops_len=MOST_HOPS, payloads_len=MOST_PAYLOADS):
+    """What a payment of A at block 700,000 is answered: the number, the first hop over zeros, the lengths over 7, and the
+    payloads. Edges, limits and silent nodes stand one after the other."""
+    payment = PAYMENT.pack(amount_msat, 700_000, A, payee, SECRET)
+    hops, payloads, lengths = bytearray(hops_len * HOP.size), bytearray(payloads_len), bytearray(LENGTHS.pack(7, 7))
+    number = library.lgm_route_over(
+        handle, payment, edges, len(edges) // EDGE.size, limits, len(limits) // LIMIT.size, silent, len(silent) // 33,
+        most_delay, at(hops), hops_len, at(payloads), payloads_len, at(lengths))
+    return number, Hop(*HOP.unpack_from(hops)), LENGTHS.unpack(lengths), payloads
+
+
+def answer(handle, payee, **beside):
+    """The number, how many hops were written over 7, and the id, the amount and the expiry of the first one, over zeros."""
+    number, hop, lengths, _ = route_over(handle, payee, **beside)
+    return number, lengths[0], hop.scid, hop.amount_msat, hop.expiry
+
+
+def answer_of_both(handles, payee, **beside):
+    """The answer that 10,000 msat get in both maps."""
+    changing, fixed = (answer(handle, payee, **beside) for handle in handles)
+    assert changing == fixed
+    return changing
+
+
+def both_kinds():
+    """A map in which A can send B 1 to 50,000,000 msat, and the same as it was published."""
+    handle = opened()
+    return handle, published(handle)
+
+
+@test
+def nothing_beside_the_map():
+    """Over nothing, a payment has the route that it has in the map alone."""
+    handles = both_kinds()
+    assert answer_of_both(handles, B) == DIRECT
+    assert answer_of_both(handles, B, most_delay=0) == DIRECT
+    assert answer_of_both(handles, C) == refusal(25)
+    assert answer_of_both(handles, A) == refusal(24)
+    payloads = bytearray(46)
+    number, hop, _ = paid(handles[0], B, 10_000, 700_000, payloads)
+    over_number, over_hop, _, over_payloads = route_over(handles[1], B, hops_len=1, payloads_len=46)
+    assert (number, over_number) == (0, 0)
+    assert payloads == over_payloads == PAYLOAD
+    assert (hop.start, hop.end) == (over_hop.start, over_hop.end) == (A, B)
+    free(*handles)
+    assert answer(handles[1], B, most_delay=0) == refusal(100)
+
+
+@test
+def limits():
+    """A limit is for one direction of a channel, and for any of its amounts that exceed it."""
+    handles = both_kinds()
+    others = limit(NUMBER, A, 10_000) + limit(NUMBER, B, 0) + limit(NUMBER + 1, A, 0)
+    assert answer_of_both(handles, B, limits=others) == DIRECT
+    for most_msat in (9_999, 0):
+        least = limit(NUMBER, A, 10_000) + limit(NUMBER, A, most_msat)
+        assert answer_of_both(handles, B, limits=least) == refusal(25)
+    free(*handles)
+
+
+@test
+def own_channels_and_silent_nodes():
+    """A silent payer pays over its own channel alone, and a silent payee is paid."""
+    handles = both_kinds()
+    assert answer_of_both(handles, B, silent=B) == DIRECT
+    assert answer_of_both(handles, B, silent=A) == refusal(25)
+    own = edge(5, A, B, 9, 9)
+    assert answer_of_both(handles, B, silent=A, edges=own) == (0, 1, 5, 10_000, 700_000)
+    free(*handles)
+
+
+@test
+def hints_within_a_delay():
+    """Hints are used where the route over them is within the delay."""
+    handles = both_kinds()
+    # From B to C for 5 msat, with a delta of 30, and from there to a fourth node, with a delta of 65,535.
+    hints = edge(6, B, C, 5, 30) + edge(7, C, D, 0, 65_535)
+    to_c = 0, 2, NUMBER, 10_005, 700_030
+    assert answer_of_both(handles, C, edges=hints) == to_c
+    assert answer_of_both(handles, C, edges=hints, most_delay=30) == to_c
+    assert answer_of_both(handles, C, edges=hints, most_delay=29) == refusal(25)
+    assert answer_of_both(handles, D, edges=hints) == (0, 3, NUMBER, 10_005, 765_565)
+    assert answer_of_both(handles, D, edges=hints, most_delay=ANY_DELAY - 1) == refusal(25)
+    free(*handles)
+
+
+@test
+def most_edges():
+    """100,001 edges are refused, whatever the payment is; 100,000 are used."""
+    handles = both_kinds()
+    edges = 99_999 * edge(5, B, A, 0, 0) + edge(6, B, C, 5, 30)
+    assert answer_of_both(handles, C, edges=edges) == (0, 2, NUMBER, 10_005, 700_030)
+    edges += edge(5, B, A, 0, 0)
+    assert answer_of_both(handles, C, edges=edges) == refusal(103)
+    assert answer(handles[0], C, amount_msat=0, edges=edges, most_delay=0) == refusal(103)
+    free(*handles)
+    assert answer(handles[0], C, amount_msat=0, edges=edges, most_delay=0) == refusal(100)
+
+
+def node(number):
+    """A node by its number."""
+    return b"\6" + number.to_bytes(2, "big") + b"\6" * 30
+
+
+def wide_network():
+    """Edges from A to eight pairs of edges in a row. The first node charges 1,000,000 msat, or delays by 600 blocks and so
+    does the next one; then there are 6,000 nodes side by side. Each pair is a free edge that delays by 1, 2, 4 .. 128
+    blocks, and one that charges as many msat."""
+    edges = [edge(1, A, node(0), 0, 0), edge(2, node(0), node(1), 1_000_000, 0), edge(3, node(0), node(50), 0, 600),
+             edge(3, node(50), node(1), 0, 600)]
+    for side in range(6_000):
+        edges += [edge(10 + 2 * side, node(1), node(100 + side), 0, 0), edge(11 + 2 * side, node(100 + side), node(2), 0, 0)]
+    for stage in range(8):
+        scid, start, end = 100_000 + 2 * stage, node(2 + stage), node(3 + stage)
+        edges += [edge(scid, start, end, 0, 2**stage), edge(scid + 1, start, end, 2**stage, 0)]
+    return b"".join(edges)
+
+
+@test
+def undecided():
+    """Where as many labels as a search makes don't suffice, a payment is undecided, and only there."""
+    handles = both_kinds()
+    edges, payee = wide_network(), node(10)
+    # Within 1,008 blocks each of the nodes side by side has 256 ways to the payee, of which none is cheaper and quicker than
+    # another, and all of which are cheaper than what the first node charges. These are 1,536,000 labels. Within 1,455 blocks
+    # the best route of all is one, and so it is within 1,008 without the edges that delay by 600.
+    assert answer_of_both(handles, payee, edges=edges, most_delay=1_008) == refusal(26)
+    free_of_charge = 0, 13, 1, 10_000, 701_455
+    assert answer_of_both(handles, payee, edges=edges, most_delay=1_455) == free_of_charge
+    assert answer_of_both(handles, payee, edges=edges) == free_of_charge
+    dear = 0, 12, 1, 1_010_000, 700_255
+    assert answer_of_both(handles, payee, edges=edges, limits=limit(3, node(0), 0), most_delay=1_008) == dear
+    free(*handles)

@@ -1,0 +1,121 @@
+"""Each call once with ample memory, and once at each of its faults: what no clause says, since any call may be out of
+memory. The numbers and lengths are worked out by hand, from BOLT 7, BOLT 4 and docs/protocol.md.
+"""
+
+from calls import (
+    A, ANNOUNCEMENT, B, CHAIN, FILTER, FOREIGN_FILTER, NODE_OF_A, NUMBER, PAYLOAD, RANGE, SEED, UPDATE, at, closed,
+    filtered, found_channel, found_node, free, library, news, offered, opened, paid, queried, test)
+
+
+@test
+def items():
+    """Opening, offers, marks and closes succeed, or are refused for the first reason."""
+    handle = closed()
+    assert offered(handle, ANNOUNCEMENT, 0, 1) == 100
+    assert library.lgm_close_channel(handle, NUMBER) == 100
+    assert library.lgm_mark(handle) == 100
+    assert library.lgm_open(handle, CHAIN, False, b"\1", 1, SEED) == 0
+    assert library.lgm_open(handle, CHAIN, True, b"", 0, SEED) == 101
+    assert offered(handle, b"", 0, 1) == 1
+    assert offered(handle, ANNOUNCEMENT, 4, 1) == 103
+    assert offered(handle, ANNOUNCEMENT, 0, 2) == 9
+    assert offered(handle, ANNOUNCEMENT, 1, 1) == 10
+    assert offered(handle, UPDATE, 2, 0) == 11
+    assert offered(handle, ANNOUNCEMENT, 0, 1) == 0
+    assert library.lgm_mark(handle) == 0
+    assert offered(handle, UPDATE, 2, 0) == 0
+    assert offered(handle, UPDATE, 2, 0) == 15
+    assert library.lgm_count(handle) == 1
+    assert library.lgm_close_channel(handle, NUMBER) == 0
+    assert library.lgm_close_channel(handle, NUMBER) == 11
+    free(handle)
+    assert library.lgm_count(handle) == 0
+
+
+def refused(handle, payee, amount_msat, expiry):
+    """The number alone, of a payment that is refused."""
+    return paid(handle, payee, amount_msat, expiry, bytearray())[0]
+
+
+@test
+def routes():
+    """A payment is refused for the first reason, or its hop and its payload are written where there is room."""
+    assert refused(closed(), B, 0, 0) == 100
+    handle = opened()
+    assert refused(handle, B, 0, 0) == 21
+    assert refused(handle, B, 2_100_000_000_000_000_001, 0) == 22
+    assert refused(handle, B, 1, 498_000_001) == 23
+    assert refused(handle, A, 1, 0) == 24
+    assert refused(handle, B, 50_000_001, 0) == 25
+    number, _, lengths = paid(handle, B, 10_000, 700_000, bytearray(45))
+    assert (number, *lengths) == (104, 1, 46)
+    room = bytearray(46)
+    number, hop, lengths = paid(handle, B, 10_000, 700_000, room)
+    assert (number, *lengths) == (0, 1, 46)
+    assert (hop.scid, hop.amount_msat, hop.expiry) == (NUMBER, 10_000, 700_000)
+    assert (hop.start, hop.end) == (A, B)
+    assert room == PAYLOAD
+    free(handle)
+
+
+@test
+def messages():
+    """Queries, filters and news are refused for the first reason, or answered where there is room."""
+    room = bytearray(600)
+    handle = closed()
+    assert queried(handle, RANGE, room) == (100, 7)
+    assert filtered(handle, FILTER, room) == (100, 7)
+    assert news(handle, FILTER, room) == (100, 7)
+    handle = opened()
+    assert queried(handle, b"", room) == (1, 7)
+    assert queried(handle, FILTER, room) == (31, 7)
+    assert filtered(handle, RANGE, room) == (32, 7)
+    assert news(handle, FOREIGN_FILTER, room) == (5, 7)
+    # A reply_channel_range has 46 bytes and 8 for each id; a message follows its length of 8 bytes.
+    assert queried(handle, RANGE, room) == (0, 62)
+    assert (room[0], room[8], room[9]) == (54, 1, 8)
+    assert filtered(handle, FILTER, bytearray(585)) == (104, 586)
+    assert news(handle, FILTER, room) == (0, 586)
+    assert (room[0], room[1], room[440], room[449]) == (176, 1, 138, 2)
+    assert library.lgm_mark(handle) == 0
+    assert news(handle, FILTER, room) == (0, 0)
+    free(handle)
+
+
+@test
+def lookups():
+    """A channel and a node are found as they were announced, or refused as unknown."""
+    room = bytearray(2)
+    handle = closed()
+    assert found_channel(handle, NUMBER)[0] == 100
+    assert found_node(handle, room) == (100, 0, 7)
+    handle = opened()
+    assert found_channel(handle, NUMBER + 1)[0] == 11
+    assert found_node(handle, room) == (33, 0, 7)
+    number, channel = found_channel(handle, NUMBER)
+    assert (number, channel.capacity_sat) == (0, 100_000)
+    assert (channel.node_1, channel.node_2) == (A, B)
+    assert (channel.from_1.is_held, channel.from_2.is_held) == (True, False)
+    assert channel.from_1.htlc_maximum_msat == 50_000_000
+    assert offered(handle, NODE_OF_A, 2, 0) == 0
+    assert found_node(handle, bytearray(1)) == (104, 9, 2)
+    assert found_node(handle, room) == (0, 9, 2)
+    assert room == b"\xff\1"
+    free(handle)
+
+
+def word_of(number):
+    """What is written of a number, over ones."""
+    word = bytearray(b"\1" * 24)
+    library.lgm_word(number, at(word))
+    return word
+
+
+@test
+def words():
+    """A number has its word, with zeros behind it, or none; and the version is 2."""
+    assert word_of(0) == b"accepted\0\0\0\0\0\0\0\0\0\0\0\0\0\0\0\0"
+    assert word_of(26) == b"undecided\0\0\0\0\0\0\0\0\0\0\0\0\0\0\0"
+    assert word_of(106) == b"published\0\0\0\0\0\0\0\0\0\0\0\0\0\0\0"
+    assert word_of(17) == bytes(24)
+    assert library.lgm_version() == 2
