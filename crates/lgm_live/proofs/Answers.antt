@@ -16,8 +16,8 @@ use Rattle.lgm_graph.specs.Edges.{edges_of}
 use Rattle.lgm_route.specs.declared.request.Request.{Request}
 use Rattle.lgm_route.specs.Choice.{answer_of}
 use Rattle.logbook.specs.Pages.{Book}
-use Rattle.lgm_publish.specs.Handles.{Sight}
-use Rattle.lgm_publish.specs.Lists.{IsLonger}
+use Rattle.lgm_board.specs.Handles.{Sight}
+use Rattle.lgm_board.specs.Lists.{IsLonger}
 use Rattle.lgm_live.specs.declared.report.LiveAnswer.{LiveAnswer}
 use Rattle.lgm_live.specs.declared.worker.WorkerResult.{WorkerResult}
 use Rattle.lgm_live.specs.Answers.{IsAnsweredBy, AreAnsweredBy, NeverFall, IsAtEnd}

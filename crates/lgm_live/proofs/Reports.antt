@@ -10,7 +10,7 @@ use Rattle.lgm_check.specs.declared.refusal.Refusal.{Refusal}
 use Rattle.lgm_script.specs.declared.item.Item.{Item}
 use Rattle.lgm_store.specs.declared.op.Op.{Op}
 use Rattle.lgm_route.specs.declared.request.Request.{Request}
-use Rattle.lgm_publish.specs.Handles.{Sight}
+use Rattle.lgm_board.specs.Handles.{Sight}
 use Rattle.lgm_live.specs.declared.fault.LiveFault.{LiveFault}
 use Rattle.lgm_live.specs.declared.report.LiveAnswer.{LiveAnswer}
 use Rattle.lgm_live.specs.declared.report.LiveReport.{LiveReport}

@@ -4,7 +4,7 @@ ghost use Rattle.std.specs.Prelude.{◌≡◌, ◌↔◌, ◌≤◌, List, [], �
 ghost use Rattle.lgm_script.specs.declared.item.Item.{Item};
 ghost use Rattle.lgm_live.specs.Batches.{items_of};
 
-use lgm_publish::MAX_OPERATIONS;
+use lgm_board::MAX_OPERATIONS;
 use lgm_script::Item;
 use std::alloc::{AllocError, Global};
 use std::marker::Model;

@@ -18,7 +18,7 @@ use crate::writer::{WriterResult, publish_batches};
 use lgm_gossip::ChainHash;
 use lgm_graph::Known;
 use lgm_par::{Gate, MAX_WORKERS, Pool};
-use lgm_publish::{Eye, MAX_OPERATIONS, Pen, PublishFault, board};
+use lgm_board::{Eye, MAX_OPERATIONS, Pen, PublishFault, board};
 use std::alloc::Global;
 use std::marker::Sync;
 use std::random::RandomSource;

@@ -8,7 +8,7 @@ ghost use Rattle.lgm_live.specs.inner.WorkerResult.{IsTied};
 use crate::fault::LiveFault;
 use crate::report::LiveAnswer;
 use crate::worker::WorkerResult;
-use lgm_publish::Pen;
+use lgm_board::Pen;
 use std::alloc::Global;
 
 /// Whether an answer is on the empty map or on that of the end of a batch.

@@ -12,7 +12,7 @@ use crate::fault::LiveFault;
 use crate::report::LiveAnswer;
 use crate::request_lists::RequestList;
 use lgm_par::{Gate, MAX_WORKERS};
-use lgm_publish::{Eye, Guard};
+use lgm_board::{Eye, Guard};
 use lgm_route::{Request, Route, RouteFault};
 use std::alloc::Global;
 use std::marker::Sync;

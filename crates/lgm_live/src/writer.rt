@@ -13,7 +13,7 @@ use crate::fault::LiveFault;
 use lgm_check::Refusal;
 use lgm_gossip::ChainHash;
 use lgm_par::{Gate, Pool};
-use lgm_publish::{AppendCause, MAX_OPERATIONS, Pen};
+use lgm_board::{AppendCause, MAX_OPERATIONS, Pen};
 use lgm_script::Item;
 use lgm_store::{CheckedMessage, Map, Op, Seed};
 use std::alloc::{AllocError, Global};

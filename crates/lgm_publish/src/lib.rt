@@ -1,32 +1,10 @@
-//! A map with its view, published by one writer to readers on other threads.
+//! A map with its view, published by one writer to readers on other threads, and the same as a plain state machine.
 //!
-//! A [`Pen`] appends operations and publishes all pending ones atomically. An [`Eye`] enters, and gets a [`Guard`] with
-//! the map published last, and its view. No reader waits for the writer or for another reader; when the writer
-//! publishes, it waits for the guards that still show the snapshot before the last publication. A guard shows the map
-//! of a prefix of the appended operations, which never shrinks from one guard of an eye to the next, and contains what
-//! the eye was told.
-//!
-//! [`World`] is the same as a plain single-threaded state machine, with a law on its answers.
+//! [`board`] makes a [`Pen`] and its [`Eye`]s, which are of `lgm_board`. [`World`] is the model of them, of `lgm_world`.
 #![tactic(auto)]
 
-mod event;
-mod eye;
-mod fault;
-mod laws;
-mod new_board;
-mod pen;
-mod rule;
-mod snapshot;
-mod told;
-mod world;
-mod writer;
-
-pub use event::{Event, Reply, WorldFault};
-pub use eye::{Eye, Guard};
-pub use fault::{AppendCause, AppendFault, NoMemory, PublishFault};
-pub use laws::eyes_answer_on_published_maps;
-pub use new_board::{MAX_READERS, board};
-pub use pen::Pen;
-pub use snapshot::MAX_OPERATIONS;
-pub use told::Told;
-pub use world::World;
+pub use lgm_board::{
+    AppendCause, AppendFault, Eye, Guard, MAX_OPERATIONS, MAX_READERS, NoMemory, Pen, PublishFault,
+    Told, board,
+};
+pub use lgm_world::{Event, Reply, World, WorldFault, eyes_answer_on_published_maps};

@@ -4,7 +4,7 @@ use Rattle.std.specs.List.{AllZip}
 use Rattle.std.specs.Global.{Vec}
 use Rattle.logbook.specs.Pages.{Book}
 use Rattle.lgm_route.specs.declared.request.Request.{Request}
-use Rattle.lgm_publish.specs.Handles.{Sight}
+use Rattle.lgm_board.specs.Handles.{Sight}
 use Rattle.lgm_store.specs.declared.op.Op.{Op}
 use Rattle.lgm_live.specs.declared.worker.WorkerResult.{WorkerResult}
 use Rattle.lgm_live.specs.declared.report.LiveAnswer.{LiveAnswer}

@@ -1,6 +1,6 @@
 use Rattle.std.proofs.Common.{◌∙◌, subst}
 use Rattle.std.proofs.lemmas.Slice.Zip.{all_zipped_more}
-use Rattle.lgm_publish.specs.Handles.{Writing}
+use Rattle.lgm_board.specs.Handles.{Writing}
 use Rattle.lgm_live.specs.inner.WorkerResult.{IsTied}
 use Rattle.lgm_live.proofs.versions.check_all_versions.Goals as goal
 

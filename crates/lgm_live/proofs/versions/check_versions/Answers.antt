@@ -1,7 +1,7 @@
 use Rattle.std.proofs.Common.{refl, rules, subst, List}
 use Rattle.std.specs.Prelude.{All, IsTrue}
 use Rattle.lgm_store.specs.declared.op.Op.{Op}
-use Rattle.lgm_publish.specs.Lists.{IsLonger}
+use Rattle.lgm_board.specs.Lists.{IsLonger}
 use Rattle.lgm_live.specs.Answers.{IsAtEnd}
 use Rattle.lgm_live.proofs.Answers.{answers_published}
 use Rattle.lgm_live.proofs.versions.check_versions.Goals as goal

@@ -2,7 +2,7 @@ use Rattle.std.proofs.Common.{rules, subst, ap₂, ◌∙◌, List, ◌++◌, If
 use Rattle.std.specs.Global.{Vec}
 use Rattle.std.specs.Prelude.{Result}
 use Rattle.std.proofs.lemmas.List.{take-append-drop}
-use Rattle.lgm_publish.specs.Handles.{Sight}
+use Rattle.lgm_board.specs.Handles.{Sight}
 use Rattle.lgm_live.specs.declared.fault.LiveFault.{LiveFault}
 use Rattle.lgm_live.specs.declared.worker.WorkerResult.{WorkerResult}
 use Rattle.lgm_live.specs.inner.WorkerResult.{HaveWorked}

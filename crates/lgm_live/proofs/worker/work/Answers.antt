@@ -1,5 +1,5 @@
 use Rattle.std.proofs.Common.{◌≡◌, ap, ◌∙◌, take}
-use Rattle.lgm_publish.specs.Handles.{Sight}
+use Rattle.lgm_board.specs.Handles.{Sight}
 use Rattle.lgm_live.proofs.Answers.{work_goes_on, rising_one_more}
 use Rattle.lgm_live.proofs.worker.work.Goals as goal
 

@@ -1,5 +1,5 @@
 use Rattle.std.proofs.Common.{◌≡◌, ◌+◌, length, take}
-use Rattle.lgm_publish.specs.declared.snapshot.TheConstants.{MAX_OPERATIONS}
+use Rattle.lgm_board.specs.declared.snapshot.TheConstants.{MAX_OPERATIONS}
 use Rattle.lgm_live.specs.Batches.{items_of}
 use Rattle.lgm_live.proofs.batches.Batches.are_few.Given as goal
 

@@ -1,0 +1,3 @@
+pub mod Beginnings
+mod HistoryLaws
+mod Boards

@@ -1,0 +1,4 @@
+pub mod Lists
+pub mod Handles
+pub mod Appended
+pub mod inner

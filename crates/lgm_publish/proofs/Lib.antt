@@ -1,6 +1,0 @@
-mod Beginnings
-mod HistoryLaws
-mod Boards
-mod Worlds
-mod Steps
-mod Runs

@@ -1,6 +1,0 @@
-use Rattle.std.proofs.Common.{◌≡◌, replicate}
-use Rattle.lgm_publish.specs.World.{marks}
-use Rattle.lgm_publish.proofs.world.World.new.Given as goal
-
-abbrev pub invariant-loop-eye : goal.invariant-loop-eye
-invariant-loop-eye l = l.marks.items ≡ replicate l._eye (marks 0 0)

@@ -1,6 +1,0 @@
-pub mod Lists
-pub mod Handles
-pub mod Appended
-pub mod World
-pub mod Laws
-pub mod inner
