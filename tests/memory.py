@@ -20,14 +20,13 @@ HERE = Path(__file__).resolve().parent
 CRATES = HERE.parent / "crates"
 TESTS = (
     ("lgm_message_tests", "wire::memory_refused"),
-    ("lgm_unit_tests", "tests::publish::refused::nothing_is_lost"),
-    ("lgm_unit_tests", "tests::graph::a_refused_step_leaves_map_and_view"),
+    ("lgm_board_tests", "tests::refused::nothing_is_lost"),
+    ("lgm_unit_tests", "tests::graph::each_step_keeps_map_and_view"),
     ("lgm_overlay_tests", "tests::memory::refused_memory"),
-    ("lgm_route_tests", "tests::refused::refused_memory"),
-    ("lgm_worked_tests", "tests::faults::refused_memory"),
-    ("lgm_worked_tests", "tests::views::refused_memory"),
+    ("lgm_script_tests", "tests::refused::refused_memory"),
+    ("lgm_script_tests", "tests::faults::refused_memory"),
+    ("lgm_script_tests", "tests::deciding::refused_memory_has_its_line"),
     ("lgm_live_tests", "routes::refused_memory"),
-    ("lgm_start_tests", "deciding::refused_memory_has_its_line"),
 )
 # Each run takes some milliseconds.
 SECONDS = 20

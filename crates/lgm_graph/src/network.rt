@@ -26,9 +26,16 @@ fn most_points(map: &Map) -> usize
 }
 
 /// A map, and its view once it is built, to which operations are applied together. Contracts see the known feature bits
-/// of nodes, the rows of the map, and the graph of the view, which is always that of these rows.
+/// of nodes, the rows of the map, and the graph of the view, which is always that of these rows. The parts are in a box, so
+/// that a network is moved and swapped in one word.
 #[derive(Drop)]
 pub struct Network {
+    parts: Box<Parts>,
+}
+
+/// The parts of a network.
+#[derive(Drop)]
+struct Parts {
     known: Known,
     map: Map,
     view: Option<View>,
@@ -39,9 +46,9 @@ impl Model for Network {
 
     ghost Value = { NetworkState };
 
-    ghost view = { λ n. record { known = n.known; rows = n.map; graph = n.view } };
+    ghost view = { λ n. record { known = n.parts.value.known; rows = n.parts.value.map; graph = n.parts.value.view } };
 
-    ghost invariant = { λ n. IsViewed n.known n.map n.view };
+    ghost invariant = { λ n. IsViewed n.parts.value.known n.parts.value.map n.parts.value.view };
 }
 
 impl Network {
@@ -58,10 +65,13 @@ impl Network {
     pub fn of(alloc: Global, map: Map, known: &Known) -> Result<Network, AllocError>
         ensures { IfOk result (λ network. network ≡ record { known = known.now; rows = map; graph = None }) }
     {
-        Ok(Network {
+        let parts = Parts {
             known: known.copy(alloc)?,
             map,
             view: None,
+        };
+        Ok(Network {
+            parts: Box::new(alloc, parts)?,
         })
     }
 
@@ -69,21 +79,21 @@ impl Network {
     pub fn copy(&self, alloc: Global) -> Result<Network, AllocError>
         ensures { IfOk result (λ copy. copy ≡ record self.now { graph = None }) }
     {
-        Network::of(alloc, self.map.copy(alloc)?, &self.known)
+        Network::of(alloc, self.parts.map.copy(alloc)?, &self.parts.known)
     }
 
     /// The known feature bits of nodes.
     pub fn known(&self) -> &Known
         ensures { result.now ≡ self.now.known }
     {
-        &self.known
+        &self.parts.known
     }
 
     /// The map.
     pub fn map(&self) -> &Map
         ensures { result.now ≡ self.now.rows }
     {
-        &self.map
+        &self.parts.map
     }
 
     /// Its view, if there is one.
@@ -91,7 +101,7 @@ impl Network {
         ensures view { option_copied result ≡ self.now.graph }
         ensures beside { IsViewed self.now.known self.now.rows self.now.graph }
     {
-        self.view.as_ref()
+        self.parts.view.as_ref()
     }
 
     /// Builds the view, unless there is one that numbers few enough points for the map ([`Network::absorb`]). The only error
@@ -108,12 +118,12 @@ impl Network {
         ensures kept { KeepsView self.old self.new.graph }
         ensures stays { OnErr result (self.new ≡ self.old) }
     {
-        if let Some(view) = &self.view {
-            if view.nodes() <= most_points(&self.map) {
+        if let Some(view) = &self.parts.view {
+            if view.nodes() <= most_points(&self.parts.map) {
                 return Ok(());
             }
         }
-        self.view = Some(View::of(alloc, &self.map, &self.known)?);
+        self.parts.view = Some(View::of(alloc, &self.parts.map, &self.parts.known)?);
         Ok(())
     }
 
@@ -124,8 +134,8 @@ impl Network {
         ensures own { self.new ≡ record self.old { graph = None } }
         ensures other { other.new ≡ record other.old { graph = option_or self.old.graph other.old.graph } }
     {
-        if let Some(view) = self.view.take() {
-            other.view = Some(view);
+        if let Some(view) = self.parts.view.take() {
+            other.parts.view = Some(view);
         }
     }
 }
@@ -140,13 +150,14 @@ impl Network {
         ensures view { OnOk result (GoesOn self.old.rows self.old.graph self.new.graph) }
         ensures stays { OnErr result (self.new ≡ self.old) }
     {
-        if let Some(view) = &mut self.view {
-            if view.nodes() <= most_points(&self.map) {
-                return view.apply(&mut self.map, op);
+        let parts = &mut *self.parts;
+        if let Some(view) = &mut parts.view {
+            if view.nodes() <= most_points(&parts.map) {
+                return view.apply(&mut parts.map, op);
             }
         }
-        self.map.absorb(op)?;
-        self.view = None;
+        parts.map.absorb(op)?;
+        parts.view = None;
         Ok(())
     }
 
@@ -176,10 +187,10 @@ impl Network {
         ensures known { self.new.known ≡ self.old.known }
         ensures refused { OnErr result (self.new ≡ self.old) }
     {
-        if self.view.is_none() {
-            return self.map.offer_at(alloc, message, hint);
+        if self.parts.view.is_none() {
+            return self.parts.map.offer_at(alloc, message, hint);
         }
-        let op = self.map.admit_checked(alloc, message)?;
+        let op = self.parts.map.admit_checked(alloc, message)?;
         self.absorb(&op)?;
         Ok(op)
     }
@@ -192,7 +203,7 @@ impl Network {
         ensures known { self.new.known ≡ self.old.known }
         ensures refused { OnErr result (self.new ≡ self.old) }
     {
-        let close = self.map.admit_close(scid)?;
+        let close = self.parts.map.admit_close(scid)?;
         self.absorb(&close)?;
         Ok(close)
     }

@@ -33,14 +33,14 @@ outcomes_behind-push chain history (i ∷ items) item =
 -- the outcome of one more item comes after the others
 outcomes-push : (chain : ChainHash) (items : List Item) (item : Item) (written : WriterResult)
     (outcome : Result Op Refusal) → IsWritten chain items written
-    → outcome_of chain written.map item ≡ outcome
+    → outcome_of chain written.map.value item ≡ outcome
     → outcomes chain (items ++ item ∷ []) ≡ outcomes chain items ++ outcome ∷ []
 outcomes-push chain items item written outcome w is =
     outcomes_behind-push chain [] items item ∙ ap (λ o. outcomes chain items ++ o ∷ []) (ap (λ rows. outcome_of chain rows item) (sym w.rows) ∙ is)
 
 history-push : (chain : ChainHash) (items : List Item) (item : Item) (written : WriterResult)
     (outcome : Result Op Refusal) → IsWritten chain items written
-    → outcome_of chain written.map item ≡ outcome
+    → outcome_of chain written.map.value item ≡ outcome
     → history_of chain (items ++ item ∷ []) ≡ history_of chain items ++ cons_option (result_ok outcome) []
 history-push chain items item written outcome w is =
     ap (filter_map result_ok) (outcomes-push chain items item written outcome w is)
@@ -48,7 +48,7 @@ history-push chain items item written outcome w is =
 
 refusals-push : (chain : ChainHash) (items : List Item) (item : Item) (written : WriterResult)
     (outcome : Result Op Refusal) → IsWritten chain items written
-    → outcome_of chain written.map item ≡ outcome
+    → outcome_of chain written.map.value item ≡ outcome
     → written.outcomes.items ++ result_err outcome ∷ [] ≡ map result_err (outcomes chain (items ++ item ∷ []))
 refusals-push chain items item written outcome w is =
     ap (λ os. os ++ result_err outcome ∷ []) w.outcomes ∙ sym (map-append result_err (outcomes chain items) (outcome ∷ []))
@@ -56,7 +56,7 @@ refusals-push chain items item written outcome w is =
 
 -- an item that is accepted
 pub accepted_written : (chain : ChainHash) (items : List Item) (item : Item) (old new : WriterResult) (op : Op)
-    → outcome_of chain old.map item ≡ Ok op → new.map ≡ absorbed old.map op
+    → outcome_of chain old.map.value item ≡ Ok op → new.map.value ≡ absorbed old.map.value op
     → new.outcomes.items ≡ old.outcomes.items ++ None ∷ [] → new.ops.items ≡ old.ops.items ++ op ∷ []
     → IsWritten chain items old → IsWritten chain (items ++ item ∷ []) new
 accepted_written chain items item old new op is map_is outcomes_are ops_are w =
@@ -69,7 +69,7 @@ accepted_written chain items item old new op is map_is outcomes_are ops_are w =
 
 -- an item that is refused
 pub refused_written : (chain : ChainHash) (items : List Item) (item : Item) (old new : WriterResult)
-    (refusal : Refusal) → outcome_of chain old.map item ≡ Err refusal → new.map ≡ old.map
+    (refusal : Refusal) → outcome_of chain old.map.value item ≡ Err refusal → new.map.value ≡ old.map.value
     → new.outcomes.items ≡ old.outcomes.items ++ Some refusal ∷ [] → new.ops.items ≡ old.ops.items
     → IsWritten chain items old → IsWritten chain (items ++ item ∷ []) new
 refused_written chain items item old new refusal is map_is outcomes_are ops_are w =

@@ -10,10 +10,10 @@ ghost use Rattle.lgm_answers.specs.Outcomes.{outcome_of};
 
 use crate::batches::Batch;
 use crate::fault::LiveFault;
+use lgm_board::{AppendCause, MAX_OPERATIONS, Pen};
 use lgm_check::Refusal;
 use lgm_gossip::ChainHash;
 use lgm_par::{Gate, Pool};
-use lgm_board::{AppendCause, MAX_OPERATIONS, Pen};
 use lgm_script::Item;
 use lgm_store::{CheckedMessage, Map, Op, Seed};
 use std::alloc::{AllocError, Global};
@@ -24,7 +24,7 @@ use std::sync::Wait;
 #[derive(Drop)]
 pub(crate) struct WriterResult {
     /// The map of all accepted items.
-    pub(crate) map: Map,
+    pub(crate) map: Box<Map>,
     /// For each item, why it was refused, or none.
     pub(crate) outcomes: Vec<Option<Refusal>>,
     /// The operations of the accepted items.
@@ -41,7 +41,7 @@ impl WriterResult {
         ensures none { IfOk result (λ written. written.ops.items ≡ []) }
     {
         Ok(WriterResult {
-            map: Map::with_seed(alloc, seed)?,
+            map: Box::new(alloc, Map::with_seed(alloc, seed)?)?,
             outcomes: Vec::new(alloc),
             ops: Vec::new(alloc),
             ends: Vec::new(alloc),
@@ -88,7 +88,7 @@ impl WriterResult {
         ensures published { pen.new.published ≡ pen.old.published }
         ensures appended { OnOk result (pen.new.published ++ pen.new.pending ≡ self.new.ops.items) }
     {
-        match admit(alloc, chain, &mut self.map, item) {
+        match admit(alloc, chain, &mut *self.map, item) {
             Ok(op) => {
                 self.keep(alloc, pen, op)?;
                 self.outcomes.push(None)?;

@@ -24,7 +24,7 @@ use lgm_store::{Hint, Map, Op, Seed};
 use std::alloc::{AllocError, Global};
 use std::collections::VecDeque;
 use std::marker::Model;
-use std::mem::replace;
+use std::mem::swap;
 use std::thread::Threads;
 
 /// The network of all accepted items, and that of the committed ones, in whose view routes are found. At a commit
@@ -105,25 +105,19 @@ impl Maps {
     pub fn commit(&mut self)
         ensures { self.new ≡ record self.old { committed = self.old.rows } }
     {
-        let Some(Replica { network, due }) = self.growing.take() else {
-            return;
-        };
-        let Some(pending) = self.pending.take() else {
-            self.committed = network;
-            self.pending = Some(due);
-            return;
-        };
-        if pending.is_empty() {
-            self.growing = Some(Replica { network, due });
-            self.pending = Some(pending);
-            return;
+        match (&mut self.growing, &mut self.pending) {
+            (Some(growing), Some(pending)) => {
+                if !pending.is_empty() {
+                    swap(&mut growing.network, &mut self.committed);
+                    swap(&mut growing.due, pending);
+                }
+            }
+            (Some(growing), None) => {
+                swap(&mut growing.network, &mut self.committed);
+                self.pending = self.growing.take().map(due);
+            }
+            (None, _) => {}
         }
-        let network = replace(&mut self.committed, network);
-        self.growing = Some(Replica {
-            network,
-            due: pending,
-        });
-        self.pending = Some(due);
     }
 
     /// Answers lines that request something of the committed map, the first of which has this number: the answers are
@@ -150,6 +144,13 @@ impl Maps {
         }
         answer_questions(context, &self.committed, number, lines, filters, output)
     }
+}
+
+/// What is due to a network, which is dropped.
+fn due(growing: Replica) -> VecDeque<Op>
+    ensures { result ≡ growing.due }
+{
+    growing.due
 }
 
 /// The map of all accepted items, if nothing is due to it.

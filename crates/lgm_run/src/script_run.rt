@@ -121,7 +121,7 @@ fn answer_script<Rt: Threads + Sync + RandomSource, G: Gate, R: Source, W: Sink>
     let alloc = context.pool.alloc;
     let mut lines = LineReader::new(alloc, room_for(context.pool.workers))?;
     let made = Engine::new(alloc, Seed::random(context.pool.rt), known)?;
-    let engine = remains.hold(made);
+    let engine = remains.hold(alloc, made)?;
     let answered = answer_lines(context, &mut lines, source, engine, output);
     flush_answers(answered, output)
 }

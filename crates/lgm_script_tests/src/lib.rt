@@ -1,4 +1,5 @@
-//! Tests of the work that workers share in whole scripts through `run`, over memory.
+//! Tests of what no script shows, of whole scripts through `run` and of the program through `start`: work that workers
+//! share, devices that fail, memory that is refused. What scripts are answered is in `tests/scripts`.
 #![tactic(auto)]
 
 #[cfg(test)]

@@ -1,2 +1,9 @@
+mod broken_devices;
+mod deciding;
+mod examples;
+mod faults;
+mod pieces;
+mod refused;
 mod sharing;
+mod starting;
 mod workers;

@@ -2,10 +2,12 @@
 //! numbers from a seed.
 //!
 //! [`Channel`], [`Update`] and [`Node`] have the fields that tests set. `new` takes those without a usual value;
-//! `message` gives the message as a type, and `bytes` its encoding. [`ops`] makes operations of fewer numbers.
+//! `message` gives the message as a type, and `bytes` its encoding. [`ops`] makes operations of fewer numbers, and
+//! [`empty_map`] a map to which they are applied.
 #![tactic(auto)]
 
 mod channel;
+mod maps;
 mod node;
 mod numbers;
 pub mod ops;
@@ -15,6 +17,7 @@ mod update;
 mod writing;
 
 pub use channel::Channel;
+pub use maps::empty_map;
 pub use node::Node;
 pub use numbers::Numbers;
 pub use points::{point, repeated_point};

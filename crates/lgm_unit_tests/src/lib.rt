@@ -1,4 +1,4 @@
-//! Tests of the libraries by their own calls: a module for each library, and two for scripts.
+//! Tests of libraries by their own calls.
 #![tactic(auto)]
 
 #[cfg(test)]

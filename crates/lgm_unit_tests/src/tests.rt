@@ -1,10 +1,8 @@
 mod bounds;
 mod graph;
-mod items;
 mod memory;
 mod par;
 mod payload;
-mod publish;
 mod route;
 mod script;
 mod seeds;

@@ -11,7 +11,7 @@ use Rattle.lgm_live.specs.declared.writer.WriterResult.{WriterResult}
 
 -- the map is that of the accepted items, and each item has its outcome
 pub record IsWritten (chain : ChainHash) (items : List Item) (written : WriterResult) : Type 0 where
-  pub rows : written.map ≡ fold (history_of chain items)
+  pub rows : written.map.value ≡ fold (history_of chain items)
   pub outcomes : written.outcomes.items ≡ map result_err (outcomes chain items)
   pub ops : written.ops.items ≡ history_of chain items
 

@@ -5,6 +5,7 @@ use super::item::{Item, take, word_of};
 use super::made::Made;
 use super::plain::Plain;
 use lgm_store::{Map, Op, Seed};
+use lgm_test_gossip::empty_map;
 use std::alloc::{AllocError, Global};
 use std::process::Abort;
 use std::test::Fail;
@@ -12,7 +13,7 @@ use std::test::Fail;
 /// A map, the plain program, and the operations so far.
 #[derive(Drop)]
 struct Both {
-    map: Map,
+    map: Box<Map>,
     plain: Plain,
     history: Vec<Op>,
 }
@@ -20,7 +21,7 @@ struct Both {
 impl Both {
     fn new(alloc: Global) -> Result<Both, AllocError> {
         Ok(Both {
-            map: Map::new(alloc)?,
+            map: empty_map(alloc)?,
             plain: Plain::new(alloc),
             history: Vec::new(alloc),
         })
@@ -46,9 +47,9 @@ impl Both {
 
 /// A copy, and the map that the operations leave with another seed, read as the map does.
 fn compare_others(rt: &impl Abort, alloc: Global, both: &Both) -> Result<(), AllocError> {
-    let copy = both.map.copy(alloc)?;
+    let copy = Box::new(alloc, both.map.copy(alloc)?)?;
     compare(rt, alloc, &copy, &both.plain)?;
-    let mut replayed = Map::with_seed(alloc, Seed::new([7; 16]))?;
+    let mut replayed = Box::new(alloc, Map::with_seed(alloc, Seed::new([7; 16]))?)?;
     for op in &both.history {
         replayed.absorb(op)?;
     }

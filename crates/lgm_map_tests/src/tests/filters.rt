@@ -4,6 +4,7 @@ use super::item::take_offer;
 use lgm_gossip::Scid;
 use lgm_query::{Backlog, Filter, ReplyMessage, backlog, news};
 use lgm_store::Map;
+use lgm_test_gossip::empty_map;
 use lgm_test_gossip::ops::channel;
 use lgm_test_scripts::{item_of, spelled};
 use std::alloc::{AllocError, Global};
@@ -28,8 +29,8 @@ fn take_lines(alloc: Global, map: &mut Map, lines: &str) -> Result<(), Fail> {
 }
 
 /// The map of these items.
-fn map_of(alloc: Global, lines: &str) -> Result<Map, Fail> {
-    let mut map = Map::new(alloc)?;
+fn map_of(alloc: Global, lines: &str) -> Result<Box<Map>, Fail> {
+    let mut map = empty_map(alloc)?;
     take_lines(alloc, &mut map, lines)?;
     Ok(map)
 }
@@ -100,7 +101,7 @@ fn assert_news(
     want: &str,
 ) -> Result<(), Fail> {
     let map = map_of(alloc, before)?;
-    let mut later = map.copy(alloc)?;
+    let mut later = Box::new(alloc, map.copy(alloc)?)?;
     take_lines(alloc, &mut later, further)?;
     let messages = news(alloc, &map, &later, &ALL)?;
     let text = text_of(alloc, messages.as_slice())?;
@@ -133,7 +134,7 @@ fn news_between_two_maps(rt: HostRuntime) -> Result<(), Fail> {
 #[test]
 fn an_empty_range_walks_no_map(rt: HostRuntime) -> Result<(), Fail> {
     let alloc = rt.alloc();
-    let mut map = Map::new(alloc)?;
+    let mut map = empty_map(alloc)?;
     for number in 0..20_000u64 {
         map.absorb(&channel(alloc, Scid::from_u64(number), (10, 11), 100_000, &[])?)?;
     }

@@ -3,7 +3,7 @@
 use super::item::{by, funded, take_message, word_of};
 use lgm_gossip::{Point, Scid};
 use lgm_store::{Map, Op};
-use lgm_test_gossip::{Channel, FREE, Terms, Update, repeated_point};
+use lgm_test_gossip::{Channel, FREE, Terms, Update, empty_map, repeated_point};
 use std::alloc::{AllocError, Global};
 use std::process::Abort;
 use std::test::Fail;
@@ -42,8 +42,8 @@ fn offer(
 }
 
 /// A map with the channel between `0a` and `0b`.
-fn announced(alloc: Global, history: &mut Vec<Op>) -> Result<Map, Fail> {
-    let mut map = Map::new(alloc)?;
+fn announced(alloc: Global, history: &mut Vec<Op>) -> Result<Box<Map>, Fail> {
+    let mut map = empty_map(alloc)?;
     let nodes = (point(0x0a), point(0x0b));
     let message = Channel::new(Scid::from_u64(ID), nodes).bytes(alloc)?;
     let op = take_message(alloc, &mut map, message.as_slice(), &funded(100_000))?;
@@ -84,9 +84,9 @@ fn assert_reads(rt: &impl Abort, map: &Map) {
 
 /// The map that a history leaves, and its copy, read so.
 fn assert_leaves(rt: &impl Abort, alloc: Global, history: &[Op]) -> Result<(), AllocError> {
-    let map = Map::replay(alloc, history)?;
+    let map = Box::new(alloc, Map::replay(alloc, history)?)?;
     assert_reads(rt, &map);
-    let copy = map.copy(alloc)?;
+    let copy = Box::new(alloc, map.copy(alloc)?)?;
     assert_reads(rt, &copy);
     Ok(())
 }

@@ -5,7 +5,7 @@ use lgm_check::Refusal;
 use lgm_gossip::Scid;
 use lgm_script::Item as Offer;
 use lgm_store::{CheckedMessage, Map, Op};
-use lgm_test_gossip::CHAIN;
+use lgm_test_gossip::{CHAIN, empty_map};
 use std::alloc::Global;
 use std::process::Abort;
 use std::test::Fail;
@@ -79,8 +79,8 @@ fn timestamp_of(map: &Map, number: u16) -> Option<u32> {
 }
 
 /// A map of 1,500 channels, of which each third was closed before 500 others were added.
-fn map_of_many(rt: &impl Abort, alloc: Global) -> Result<Map, Fail> {
-    let mut map = Map::new(alloc)?;
+fn map_of_many(rt: &impl Abort, alloc: Global) -> Result<Box<Map>, Fail> {
+    let mut map = empty_map(alloc)?;
     for number in 0..1500u16 {
         open(rt, alloc, &mut map, number);
     }

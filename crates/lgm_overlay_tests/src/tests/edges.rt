@@ -90,7 +90,7 @@ fn laid(
     if map.count() > 2_000_000 {
         return Err(AllocError);
     }
-    let view = View::of(alloc, &map, known)?;
+    let view = Box::new(alloc, View::of(alloc, &map, known)?)?;
     let overlay = overlay_of(alloc, parts)?;
     if overlay.extra_count() > 1_000_000 {
         return Err(AllocError);

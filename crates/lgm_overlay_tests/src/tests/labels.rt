@@ -84,7 +84,7 @@ fn answer(
 ) -> Result<Result<Route, LimitedFault>, AllocError> {
     let overlay = overlay_of(alloc, NOTHING)?;
     assert!(rt; map.count() <= 1_000_000 && overlay.extra_count() <= 1_000_000);
-    let view = View::of(alloc, map, &Known::all())?;
+    let view = Box::new(alloc, View::of(alloc, map, &Known::all())?)?;
     let limit = DelayLimit {
         most_delay,
         most_labels,
@@ -106,7 +106,7 @@ fn is_decided(
 }
 
 /// The network.
-fn made_map(alloc: Global, numbers: &mut Numbers) -> Result<Map, AllocError> {
+fn made_map(alloc: Global, numbers: &mut Numbers) -> Result<Box<Map>, AllocError> {
     let items = items(alloc, numbers)?;
     map_of(alloc, items.as_slice())
 }

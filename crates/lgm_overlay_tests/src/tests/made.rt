@@ -4,7 +4,7 @@ use lgm_gossip::Scid;
 use lgm_graph::{ExtraEdge, Limit, Overlay};
 use lgm_store::Map;
 use lgm_test_gossip::ops::{channel, node, update};
-use lgm_test_gossip::{FREE, Terms, point};
+use lgm_test_gossip::{FREE, Terms, empty_map, point};
 use std::alloc::{AllocError, Global};
 
 /// A direction of a channel, or an extra edge.
@@ -83,8 +83,8 @@ fn absorb(alloc: Global, map: &mut Map, item: &Item) -> Result<(), AllocError> {
 }
 
 /// The map of some items.
-pub fn map_of(alloc: Global, items: &[Item]) -> Result<Map, AllocError> {
-    let mut map = Map::new(alloc)?;
+pub fn map_of(alloc: Global, items: &[Item]) -> Result<Box<Map>, AllocError> {
+    let mut map = empty_map(alloc)?;
     for item in items {
         absorb(alloc, &mut map, item)?;
     }

@@ -111,7 +111,7 @@ pub fn assert_within(
     wanted: Result<&[Told], LimitedFault>,
 ) -> Result<(), AllocError> {
     assert!(rt; map.count() <= 1_000_000);
-    let view = View::of(alloc, map, known)?;
+    let view = Box::new(alloc, View::of(alloc, map, known)?)?;
     let overlay = overlay_of(alloc, parts)?;
     assert!(rt; overlay.extra_count() <= 1_000_000);
     let answer = answer_within(alloc, map, &view, &overlay, request, limit);
@@ -144,7 +144,7 @@ pub fn assert_over<Rt: Abort + Threads + Sync>(
     wanted: Result<&[Told], RouteFault>,
 ) -> Result<(), AllocError> {
     assert!(rt; map.count() <= 1_000_000);
-    let view = View::of(alloc, map, known)?;
+    let view = Box::new(alloc, View::of(alloc, map, known)?)?;
     let overlay = overlay_of(alloc, parts)?;
     assert!(rt; overlay.extra_count() <= 1_000_000);
     let answer = answer_over(alloc, map, &view, &overlay, request);

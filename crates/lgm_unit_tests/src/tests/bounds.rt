@@ -1,15 +1,13 @@
-//! What networks, boards and copies of maps take: it is bounded by what there is, whatever has been.
+//! What networks and copies of maps take: it is bounded by what there is, whatever has been.
 
 use super::memory::most_memory;
 use lgm_gossip::Scid;
 use lgm_graph::{Known, Network, push_pending, reserve_pending};
-use lgm_publish::{Eye, Pen, board};
 use lgm_store::{Map, Op, Seed};
-use lgm_test_gossip::FREE;
 use lgm_test_gossip::ops::{channel, update};
+use lgm_test_gossip::{FREE, empty_map};
 use std::alloc::{AllocError, Global};
 use std::collections::VecDeque;
-use std::sync::Wait;
 use std::test::Fail;
 
 /// The id of the channel of a block.
@@ -42,7 +40,10 @@ fn points(alloc: Global, network: &mut Network) -> Result<usize, Fail> {
 #[test]
 fn a_view_forgets_nodes(rt: HostRuntime) -> Result<(), Fail> {
     let alloc = rt.alloc();
-    let mut network = Network::new(alloc, Seed::new([7; 16]), &Known::all())?;
+    let mut network = Box::new(
+        alloc,
+        Network::new(alloc, Seed::new([7; 16]), &Known::all())?,
+    )?;
     let mut most = 0;
     for op in &coming_and_going(alloc)? {
         network.absorb(op)?;
@@ -51,43 +52,6 @@ fn a_view_forgets_nodes(rt: HostRuntime) -> Result<(), Fail> {
         }
     }
     assert_eq!(rt; most, 1_024);
-    Ok(())
-}
-
-/// The points of the view that is published last.
-fn published_points(eye: Eye) -> (Eye, usize) {
-    match eye.enter() {
-        Ok(guard) => {
-            let points = guard.view().nodes();
-            (guard.leave(), points)
-        }
-        Err(eye) => (eye, usize::MAX),
-    }
-}
-
-/// The most points that are published.
-fn most_published<R: Wait>(rt: &R, mut pen: Pen, mut eye: Eye, ops: Vec<Op>) -> usize {
-    let mut most = 0;
-    for op in ops {
-        let _ = pen.append(op);
-        let _ = pen.publish(rt);
-        let (back, points) = published_points(eye);
-        eye = back;
-        most = points.max(most);
-    }
-    pen.end(rt);
-    most
-}
-
-/// The same through a board: the most points of a view that is published.
-#[test]
-fn a_board_forgets_nodes(rt: HostRuntime) -> Result<(), Fail> {
-    let alloc = rt.alloc();
-    let ops = coming_and_going(alloc)?;
-    let (pen, mut eyes) = board(&rt, alloc, 1, &Known::all())?;
-    let eye = eyes.pop().expect(&rt, "an eye");
-    let most = most_published(&rt, pen, eye, ops);
-    assert!(rt; most <= 1_026, "{most} points");
     Ok(())
 }
 
@@ -108,8 +72,8 @@ fn pending_operations_are_few(rt: HostRuntime) -> Result<(), Fail> {
 }
 
 /// A map of 60 channels, which had 10,000.
-fn once_large(alloc: Global) -> Result<Map, AllocError> {
-    let mut map = Map::new(alloc)?;
+fn once_large(alloc: Global) -> Result<Box<Map>, AllocError> {
+    let mut map = empty_map(alloc)?;
     for block in 0..10_000u16 {
         let nodes = (block, block.wrapping_add(1));
         map.absorb(&channel(alloc, scid(u32::from(block)), nodes, 100_000, &[])?)?;
@@ -118,6 +82,11 @@ fn once_large(alloc: Global) -> Result<Map, AllocError> {
         map.absorb(&Op::Close(scid(block)))?;
     }
     Ok(map)
+}
+
+/// A copy of a map.
+fn copied(alloc: Global, map: &Map) -> Result<Box<Map>, AllocError> {
+    Ok(Box::new(alloc, map.copy(alloc)?)?)
 }
 
 /// Each of 100 copies has 60 channels. With the room of 10,000 they would take some 400,000 KiB. If `rt try` runs the test,
@@ -129,10 +98,9 @@ fn a_copy_takes_the_room_that_it_needs(rt: HostRuntime) -> Result<(), Fail> {
     let before = most_memory(&rt)?;
     let mut copies = Vec::new(alloc);
     for _ in 0..100 {
-        let copy = map.copy(alloc)?;
-        assert_eq!(rt; copy.count(), 60);
-        copies.push(copy)?;
+        copies.push(copied(alloc, &map)?)?;
     }
+    assert!(rt; copies.as_slice().iter().all(|copy| copy.count() == 60));
     let more = most_memory(&rt)?.saturating_sub(before);
     assert!(rt; more < 100_000, "{more} KiB more");
     Ok(())

@@ -1,8 +1,8 @@
-//! `lgm_payload`: payloads, built and read back, and their faults.
+//! `lgm_payload`: payloads that are read, and their faults. What is built for a route is in `tests/scripts`.
 
 use lgm_gossip::{Bytes, Point, Scid};
-use lgm_payload::{PayloadFault, Payment, build, read};
-use lgm_route::{Hop, Route};
+use lgm_payload::{PayloadFault, Payment, read};
+use lgm_route::Hop;
 use lgm_wire::WireFault;
 use std::alloc::Global;
 use std::test::Fail;
@@ -51,20 +51,7 @@ pub fn two_hops() -> [Hop; 2] {
     ]
 }
 
-#[test]
-fn payloads_of_two_hops(rt: HostRuntime) -> Result<(), Fail> {
-    let route = Route::of(rt.alloc(), &two_hops())?;
-    let payloads = build(rt.alloc(), &route, &SECRET)?;
-    let last = arrival(rt.alloc())?;
-    let expected: [&[u8]; 2] = [&FORWARD, &last];
-    assert_eq!(rt; payloads.as_slice().len(), 2);
-    for (payload, bytes) in payloads.as_slice().iter().zip(expected) {
-        assert_eq!(rt; payload.as_slice(), bytes);
-    }
-    Ok(())
-}
-
-/// What was built is read back.
+/// The payloads of two hops.
 #[test]
 fn payloads_read_back(rt: HostRuntime) -> Result<(), Fail> {
     let forward = read(rt.alloc(), &FORWARD)?;

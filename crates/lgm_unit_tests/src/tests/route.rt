@@ -1,12 +1,13 @@
-//! `lgm_route`: routes over small maps, whose amounts and ids were worked out by hand.
+//! `lgm_route`: searches that workers share, over small maps, and routes and words. What `route` lines are answered is
+//! in `tests/scripts`.
 
 use lgm_gossip::Scid;
 use lgm_graph::{Known, View};
-use lgm_par::{Gate, Open};
+use lgm_par::Gate;
 use lgm_route::{Hop, Request, Route, RouteFault, least, least_chunked};
 use lgm_store::Map;
 use lgm_test_gossip::ops::{channel, update};
-use lgm_test_gossip::{FREE, Terms, point};
+use lgm_test_gossip::{FREE, Terms, empty_map, point};
 use std::alloc::{AllocError, Global};
 use std::process::Abort;
 use std::sync::atomic::{AtomicU64, Ordering};
@@ -25,44 +26,6 @@ fn join(
 ) -> Result<(), AllocError> {
     map.absorb(&channel(alloc, scid, (from, to), 2_100_000_000_000_000, &[])?)?;
     map.absorb(&update(alloc, scid, 0, terms)?)
-}
-
-/// That two answers are the same.
-fn assert_same(
-    rt: &impl Abort,
-    answer: &Result<Route, RouteFault>,
-    other: &Result<Route, RouteFault>,
-) {
-    match (answer, other) {
-        (Ok(route), Ok(other)) => assert_eq!(rt; route.as_slice(), other.as_slice()),
-        (Err(fault), Err(other)) => assert_eq!(rt; *fault, *other),
-        _ => assert!(rt; false, "one has a route, the other none"),
-    }
-}
-
-/// The answer of `least`, which `least_chunked` gives, too.
-fn answer(
-    rt: &(impl Abort + Threads + Sync),
-    alloc: Global,
-    map: &Map,
-    to: u16,
-    amount: u64,
-    expiry: u32,
-) -> Result<Result<Route, RouteFault>, AllocError> {
-    assert!(rt; map.count() <= 2_000_000_000);
-    let view = View::of(alloc, map, &Known::all())?;
-    let request = Request {
-        payer: point(0),
-        payee: point(to),
-        amount,
-        expiry,
-    };
-    let found = least(alloc, &view, &request);
-    for workers in [1, 3, 64] {
-        let also = least_chunked(rt, alloc, workers, &Open, &view, &request);
-        assert_same(rt, &found, &also);
-    }
-    Ok(found)
 }
 
 /// What the payer sends, its expiry, and the ids of the channels in one list.
@@ -90,45 +53,6 @@ fn assert_route(
         }
         Err(fault) => assert!(rt; false, "{fault}"),
     }
-    Ok(())
-}
-
-/// The second channel charges 200 msat and 2,000 ppm of 4,999,999 msat: 10,199 msat.
-#[test]
-fn fee_of_the_second_channel(rt: HostRuntime) -> Result<(), Fail> {
-    let alloc = rt.alloc();
-    let mut map = Map::new(alloc)?;
-    let first = Terms { delta: 10, ..FREE };
-    let second = Terms {
-        base: 200,
-        millionths: 2000,
-        delta: 20,
-        ..FREE
-    };
-    join(&mut map, alloc, Scid::from_u64(1), 0, 1, &first)?;
-    join(&mut map, alloc, Scid::from_u64(2), 1, 2, &second)?;
-    let found = answer(&rt, alloc, &map, 2, 4_999_999, 700_009)?;
-    assert_route(&rt, alloc, found, &[5_010_198, 700_029, 1, 2])?;
-    Ok(())
-}
-
-/// 20 channels, each with a delta of 40 blocks, are a route; 21 are none.
-#[test]
-fn twenty_channels(rt: HostRuntime) -> Result<(), Fail> {
-    let alloc = rt.alloc();
-    let mut map = Map::new(alloc)?;
-    let mut expected = vec![in alloc; 1000, 700_760]?;
-    for node in 1..=21 {
-        let scid = Scid::new(u32::from(node), 0, 0);
-        join(&mut map, alloc, scid, node - 1, node, &FREE)?;
-        if node <= 20 {
-            expected.push(scid.to_u64())?;
-        }
-    }
-    let found = answer(&rt, alloc, &map, 20, 1000, 700_000)?;
-    assert_route(&rt, alloc, found, &expected)?;
-    let none = answer(&rt, alloc, &map, 21, 1000, 700_000)?;
-    assert_eq!(rt; none.err(), Some(RouteFault::NoRoute));
     Ok(())
 }
 
@@ -174,31 +98,41 @@ impl Gate for Pairs {
     }
 }
 
-/// The route of a payment from node 0 that these workers find behind this gate.
-fn found_by(
-    rt: &(impl Abort + Threads + Sync),
-    alloc: Global,
-    workers: usize,
-    gate: &Pairs,
-    map: &Map,
-    to: u16,
-    amount: u64,
-) -> Result<Result<Route, RouteFault>, AllocError> {
-    assert!(rt; map.count() <= 2_000_000_000);
-    let view = View::of(alloc, map, &Known::all())?;
-    let request = Request {
+/// A payment from node 0.
+fn payment(to: u16, amount: u64) -> Request {
+    Request {
         payer: point(0),
         payee: point(to),
         amount,
         expiry: 700_000,
-    };
+    }
+}
+
+/// The view of a map with few channels.
+fn view_of(alloc: Global, map: &Map) -> Result<Box<View>, AllocError> {
+    if map.count() > 10_000 {
+        return Err(AllocError);
+    }
+    Ok(Box::new(alloc, View::of(alloc, map, &Known::all())?)?)
+}
+
+/// The route of a payment that these workers find behind this gate.
+fn found_by(
+    rt: &(impl Threads + Sync),
+    alloc: Global,
+    workers: usize,
+    gate: &Pairs,
+    map: &Map,
+    request: &Request,
+) -> Result<Result<Route, RouteFault>, AllocError> {
+    let view = view_of(alloc, map)?;
     let workers = workers.clamp(1, 64);
-    Ok(least_chunked(rt, alloc, workers, gate, &view, &request))
+    Ok(least_chunked(rt, alloc, workers, gate, &view, request))
 }
 
 /// Two ways from node 0 to node 3 that send the same over as many channels.
-fn two_ways(alloc: Global) -> Result<Map, AllocError> {
-    let mut map = Map::new(alloc)?;
+fn two_ways(alloc: Global) -> Result<Box<Map>, AllocError> {
+    let mut map = empty_map(alloc)?;
     for (block, from, to) in [(1, 0, 1), (2, 0, 2), (3, 1, 3), (4, 2, 3)] {
         join(&mut map, alloc, Scid::new(block, 0, 0), from, to, &FREE)?;
     }
@@ -217,7 +151,7 @@ fn two_pieces_at_once(rt: HostRuntime) -> Result<(), Fail> {
     let alloc = rt.alloc();
     let map = two_ways(alloc)?;
     let gate = Pairs::new();
-    let found = found_by(&rt, alloc, 2, &gate, &map, 3, 1000)?;
+    let found = found_by(&rt, alloc, 2, &gate, &map, &payment(3, 1000))?;
     assert_route(&rt, alloc, found, &least_ids())?;
     let turns = gate.turns.load(Ordering::SeqCst);
     assert!(rt; 0 < turns && turns < LIMIT, "ended at the limit");
@@ -231,9 +165,19 @@ fn one_worker_breaks_ties_by_ids(rt: HostRuntime) -> Result<(), Fail> {
     let alloc = rt.alloc();
     let map = two_ways(alloc)?;
     let gate = Pairs::new();
-    let found = found_by(&rt, alloc, 1, &gate, &map, 3, 1000)?;
+    let found = found_by(&rt, alloc, 1, &gate, &map, &payment(3, 1000))?;
     assert_route(&rt, alloc, found, &least_ids())?;
     assert_eq!(rt; gate.ones.load(Ordering::SeqCst), 0);
+    Ok(())
+}
+
+/// So does the search of one thread.
+#[test]
+fn one_thread_breaks_ties_by_ids(rt: HostRuntime) -> Result<(), Fail> {
+    let alloc = rt.alloc();
+    let view = view_of(alloc, &*two_ways(alloc)?)?;
+    let found = least(alloc, &view, &payment(3, 1000));
+    assert_route(&rt, alloc, found, &least_ids())?;
     Ok(())
 }
 
@@ -245,8 +189,8 @@ const PAYEE: u16 = MANY + 3;
 
 /// Nodes 1 and 2 each charge as much as they forward: the only route sends 40,000 msat, of which the payee gets 10,000.
 /// The other nodes each charge less, so they are relaxed before they turn out to be dead ends.
-fn dead_ends(alloc: Global) -> Result<Map, AllocError> {
-    let mut map = Map::new(alloc)?;
+fn dead_ends(alloc: Global) -> Result<Box<Map>, AllocError> {
+    let mut map = empty_map(alloc)?;
     let twice = Terms {
         millionths: 1_000_000,
         ..FREE
@@ -269,39 +213,9 @@ fn two_pieces_of_a_layer(rt: HostRuntime) -> Result<(), Fail> {
     let map = dead_ends(alloc)?;
     for (workers, seconds) in [(2, 1), (1, 0)] {
         let gate = Pairs::new();
-        let found = found_by(&rt, alloc, workers, &gate, &map, PAYEE, 10_000)?;
+        let found = found_by(&rt, alloc, workers, &gate, &map, &payment(PAYEE, 10_000))?;
         assert_route(&rt, alloc, found, &[40_000, 700_080, 1, 2, 3])?;
         assert_eq!(rt; gate.ones.load(Ordering::SeqCst), seconds);
-    }
-    Ok(())
-}
-
-/// The greatest amount, over a channel that takes it, and the refusals in their order.
-#[test]
-fn refusals(rt: HostRuntime) -> Result<(), Fail> {
-    let alloc = rt.alloc();
-    let most = 2_100_000_000_000_000_000;
-    let mut map = Map::new(alloc)?;
-    join(
-        &mut map,
-        alloc,
-        Scid::from_u64(5),
-        0,
-        2,
-        &Terms { max: most, ..FREE },
-    )?;
-    let found = answer(&rt, alloc, &map, 2, most, 498_000_000)?;
-    assert_route(&rt, alloc, found, &[most, 498_000_000, 5])?;
-    let rows = [
-        (0, 0, 498_000_001, RouteFault::AmountZero),
-        (0, most + 1, 498_000_001, RouteFault::AmountTooLarge),
-        (0, most, 498_000_001, RouteFault::ExpiryTooLarge),
-        (0, most, 498_000_000, RouteFault::SelfPayment),
-        (7, most, 498_000_000, RouteFault::NoRoute),
-    ];
-    for (to, amount, expiry, fault) in rows {
-        let refused = answer(&rt, alloc, &map, to, amount, expiry)?;
-        assert_eq!(rt; refused.err(), Some(fault));
     }
     Ok(())
 }

@@ -1,12 +1,11 @@
-//! `lgm_script`: lines and blocks over any device, and payments.
+//! `lgm_script`: lines and blocks over any device.
 
 ghost use Rattle.std.specs.Prelude.{◌≤◌, IfOk};
 
-use lgm_gossip::{Point, Scid};
+use lgm_gossip::Scid;
 use lgm_script::{
-    BLOCK, Command, Failed, Failures, FromRead, Lead, Line, LineFault, LineReader, MAX_LINE,
-    MemorySink, MemorySource, Output, RouteParameters, Sink, Source, ToWrite, next_group,
-    next_line, parse,
+    BLOCK, Failed, Failures, FromRead, Lead, Line, LineFault, LineReader, MAX_LINE, MemorySink,
+    MemorySource, Output, Sink, Source, ToWrite, next_group, next_line,
 };
 use std::alloc::Global;
 use std::io::{self, ErrorKind, Read, Write};
@@ -183,92 +182,6 @@ fn failing_reads(rt: HostRuntime) -> Result<(), Fail> {
         );
     }
     Ok(())
-}
-
-const PAYER: &str = "020A0a0a0a0a0a0a0a0a0a0a0a0a0a0a0a0a0a0a0a0a0a0a0a0a0a0a0a0a0a0a0a";
-
-const PAYEE: &str = "ff0b0b0b0b0b0b0b0b0b0b0b0b0b0b0b0b0b0b0b0b0b0b0b0b0b0b0b0b0b0b0b0B";
-
-const SECRET: &str = "1111111111111111111111111111111111111111111111111111111111111111";
-
-/// Whether a line requests the route of a payment.
-fn asks_for(request: &Command, payment: &RouteParameters) -> bool {
-    match request {
-        Command::Route(found) => found == payment,
-        _ => false,
-    }
-}
-
-#[test]
-fn payments(rt: HostRuntime) -> Result<(), Fail> {
-    let alloc = rt.alloc();
-    let mut payer = [0x0a; 33];
-    payer[0] = 2;
-    let mut payee = [0x0b; 33];
-    payee[0] = 0xff;
-    for (msat, amount, blocks, expiry) in [
-        ("0", 0, "0", 0),
-        ("1000", 1_000, "700000", 700_000),
-        ("18446744073709551615", u64::MAX, "4294967295", u32::MAX),
-    ] {
-        let line = format!(in alloc; "route {PAYER} {PAYEE} {msat} {blocks} {SECRET}")?;
-        let payment = RouteParameters {
-            payer: Point(payer),
-            payee: Point(payee),
-            amount,
-            expiry,
-            secret: [0x11; 32],
-        };
-        let request = parse(alloc, line.as_bytes())?;
-        assert!(rt; asks_for(&request, &payment), "{line}");
-    }
-    Ok(())
-}
-
-#[test]
-fn no_payments(rt: HostRuntime) -> Result<(), Fail> {
-    let alloc = rt.alloc();
-    for fields in [
-        "",
-        " 1 1",
-        "PAYER PAYEE 1 1",
-        "PAYER PAYEE 1 1 ",
-        "PAYER PAYEE 1 1 SECRET ",
-        "PAYER PAYEE 1 1 SECRET 1",
-        " PAYER PAYEE 1 1 SECRET",
-        "PAYER  PAYEE 1 1 SECRET",
-        "PAYER\tPAYEE 1 1 SECRET",
-        "PAYER PAYEE 1 1 SECRET\r",
-        "SECRET PAYEE 1 1 SECRET",
-        "PAYER SECRET 1 1 SECRET",
-        "PAYER all 1 1 SECRET",
-        "PAYER0 PAYEE 1 1 SECRET",
-        "PAYER PAYEE  1 SECRET",
-        "PAYER PAYEE 01 1 SECRET",
-        "PAYER PAYEE +1 1 SECRET",
-        "PAYER PAYEE 0x1 1 SECRET",
-        "PAYER PAYEE 18446744073709551616 1 SECRET",
-        "PAYER PAYEE 1  SECRET",
-        "PAYER PAYEE 1 00 SECRET",
-        "PAYER PAYEE 1 -1 SECRET",
-        "PAYER PAYEE 1 4294967296 SECRET",
-        "PAYER PAYEE 1 1 PAYER",
-        "PAYER PAYEE 1 1 SECRET0",
-        "PAYER PAYEE 1 1 1",
-    ] {
-        let line = spelled(alloc, fields)?;
-        let request = parse(alloc, line.as_bytes())?;
-        assert!(rt; matches!(&request, Command::Bad), "{line}");
-    }
-    Ok(())
-}
-
-/// The line of a route, with these names in place of what they stand for.
-fn spelled(alloc: Global, fields: &str) -> Result<String, Fail> {
-    let payers = fields.replace(alloc, "PAYER", PAYER)?;
-    let payees = payers.as_str().replace(alloc, "PAYEE", PAYEE)?;
-    let secrets = payees.as_str().replace(alloc, "SECRET", SECRET)?;
-    Ok(format!(in alloc; "route {secrets}")?)
 }
 
 #[test]

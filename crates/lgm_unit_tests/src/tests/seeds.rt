@@ -2,27 +2,20 @@
 
 use lgm_gossip::Scid;
 use lgm_graph::{Known, View};
-use lgm_publish::{Eye, board};
 use lgm_store::{Map, Seed};
 use lgm_test_gossip::ops::channel;
 use std::alloc::{AllocError, Global};
 use std::io;
-use std::process::Abort;
 use std::random::RandomSource;
-use std::sync::Wait;
 use std::test::Fail;
 
 const BYTES: [u8; 16] = *b"\x01\x02\x03\x04\x05\x06\x07\x08\x09\x0a\x0b\x0c\x0d\x0e\x0f\x10";
 
-/// A runtime whose random bytes are known.
+/// A source whose random bytes are known.
 #[derive(Drop)]
-struct Predicted<'a, R> {
-    rt: &'a R,
-}
+struct Predicted;
 
-impl<R: Wait> Wait for Predicted<'_, R> {}
-
-impl<R> RandomSource for Predicted<'_, R> {
+impl RandomSource for Predicted {
     fn fill_bytes(&self, buf: &mut [u8]) -> io::Result<()> {
         for (byte, known) in buf.iter_mut().zip(&BYTES) {
             *byte = *known;
@@ -43,68 +36,42 @@ impl RandomSource for Dry {
 
 #[test]
 fn a_seed_is_what_the_system_gives(rt: HostRuntime) -> Result<(), Fail> {
-    let predicted = Predicted { rt: &rt };
-    assert_eq!(rt; Seed::random(&predicted).bytes(), BYTES);
+    assert_eq!(rt; Seed::random(&Predicted).bytes(), BYTES);
     assert_eq!(rt; Seed::random(&Dry).bytes(), [0; 16]);
     Ok(())
 }
 
+/// An empty map with this seed.
+fn empty(alloc: Global) -> Result<Box<Map>, AllocError> {
+    Ok(Box::new(alloc, Map::with_seed(alloc, Seed::new(BYTES))?)?)
+}
+
 /// A map of one channel with this seed.
-fn map_of_one(alloc: Global) -> Result<Map, AllocError> {
-    let mut map = Map::with_seed(alloc, Seed::new(BYTES))?;
+fn map_of_one(alloc: Global) -> Result<Box<Map>, AllocError> {
+    let mut map = empty(alloc)?;
     let op = channel(alloc, Scid::new(7, 0, 0), (10, 11), 100_000, &[])?;
     map.absorb(&op)?;
     Ok(map)
 }
 
+/// The seed of a copy of a map.
+fn seed_of_copy(alloc: Global, map: &Map) -> Result<[u8; 16], AllocError> {
+    Ok(map.copy(alloc)?.seed().bytes())
+}
+
+/// The seed of a view of a map with few channels.
+fn seed_of_view(alloc: Global, map: &Map) -> Result<[u8; 16], AllocError> {
+    if map.count() > 1_000 {
+        return Err(AllocError);
+    }
+    Ok(View::of(alloc, map, &Known::all())?.seed().bytes())
+}
+
 #[test]
-fn a_map_and_its_copy_have_one_seed(rt: HostRuntime) -> Result<(), Fail> {
+fn a_map_its_copy_and_its_view_have_one_seed(rt: HostRuntime) -> Result<(), Fail> {
     let map = map_of_one(rt.alloc())?;
     assert_eq!(rt; map.seed().bytes(), BYTES);
-    let copy = map.copy(rt.alloc())?;
-    assert_eq!(rt; copy.seed().bytes(), BYTES);
-    Ok(())
-}
-
-#[test]
-fn a_view_has_the_seed_of_its_map(rt: HostRuntime) -> Result<(), Fail> {
-    let map = map_of_one(rt.alloc())?;
-    if map.count() > 2_000_000_000 {
-        return Err(Fail::from("too many channels"));
-    }
-    let view = View::of(rt.alloc(), &map, &Known::all())?;
-    assert_eq!(rt; view.seed().bytes(), BYTES);
-    Ok(())
-}
-
-/// What is published last has this seed.
-fn assert_published(rt: &impl Abort, eye: Eye) -> Eye {
-    match eye.enter() {
-        Ok(guard) => {
-            assert_eq!(rt; guard.map().seed().bytes(), BYTES);
-            assert_eq!(rt; guard.view().seed().bytes(), BYTES);
-            guard.leave()
-        }
-        Err(_) => panic!(rt; "no guard"),
-    }
-}
-
-/// Both copies of a board, which are published in turn.
-#[test]
-fn a_board_has_the_seed_that_the_system_gives(rt: HostRuntime) -> Result<(), Fail> {
-    let alloc = rt.alloc();
-    let mut ops = Vec::new(alloc);
-    for block in 7..10u32 {
-        ops.push(channel(alloc, Scid::new(block, 0, 0), (10, 11), 100_000, &[])?)?;
-    }
-    let (mut pen, mut eyes) = board(&Predicted { rt: &rt }, alloc, 1, &Known::all())?;
-    let mut eye = eyes.pop().expect(&rt, "an eye");
-    for op in ops {
-        eye = assert_published(&rt, eye);
-        let _ = pen.append(op);
-        let _ = pen.publish(&rt);
-    }
-    assert_published(&rt, eye);
-    pen.end(&rt);
+    assert_eq!(rt; seed_of_copy(rt.alloc(), &map)?, BYTES);
+    assert_eq!(rt; seed_of_view(rt.alloc(), &map)?, BYTES);
     Ok(())
 }

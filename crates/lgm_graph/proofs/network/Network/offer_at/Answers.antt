@@ -18,4 +18,4 @@ pub returns-in_err-absorb-clause-admission : goal.returns-in_err-absorb-clause-a
 returns-in_err-absorb-clause-admission c =
     offers_less (admitted c.args.self.now.rows c.args.message) c.admit_checked.result c.from_residual-in_err-absorb.result c.in_ok-op.op
     (subst (λ (rows : Rows). Offers c.admit_checked.result (admitted rows c.args.message))
-    (ap (λ network. network.rows) c.self.view_is) c.admit_checked.ensures) c.in_ok-op.was c.from_residual-in_err-absorb.ensures.1
+    (ap (λ network. network.rows) c.self.view_is) (rw c.deref-2.ensures at c.admit_checked.ensures)) c.in_ok-op.was c.from_residual-in_err-absorb.ensures.1

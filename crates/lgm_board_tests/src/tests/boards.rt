@@ -5,7 +5,6 @@ ghost use Rattle.std.specs.Prelude.{◌≡◌};
 use super::shown::{Contents, Shown, look, shows};
 use super::two_channels::{first_channel, has_row, two_channels};
 use super::{channel, scid, update};
-use crate::tests::graph::is_as_made;
 use lgm_graph::Known;
 use lgm_publish::{Eye, Pen, board};
 use lgm_store::{Map, Op};
@@ -252,48 +251,6 @@ fn an_eye_that_was_told_and_one_that_was_not(rt: HostRuntime) -> Result<(), Fail
     assert_eq!(rt; story.next, Some(third));
     assert_eq!(rt; story.published, 3);
     assert!(rt; story.other == Some(0) || story.other == Some(2) || story.other == Some(3));
-    Ok(())
-}
-
-/// The version of an eye's guard, and whether its view has the edges of one that is made of its map.
-fn looks_as_made(alloc: Global, eye: Eye) -> Option<(u64, bool)> {
-    let guard = match eye.enter() {
-        Ok(guard) => guard,
-        Err(_eye) => return None,
-    };
-    let same = is_as_made(alloc, guard.view(), guard.map(), &Known::all());
-    let version = guard.version();
-    guard.leave();
-    match same {
-        Ok(same) => Some((version, same)),
-        Err(_) => None,
-    }
-}
-
-/// What an eye is shown that was told of three operations, two of which were published before the third.
-fn told_of_three<R: Wait + RandomSource + Abort>(
-    rt: &R,
-    alloc: Global,
-    (one, two, three): (Op, Op, Op),
-) -> Result<Option<(u64, bool)>, Fail> {
-    let (mut pen, mut eyes) = board(rt, alloc, 2, &Known::all())?;
-    let mut first = eyes.pop().expect(rt, "an eye");
-    publish_two(rt, &mut pen, one, two);
-    publish_one(rt, &mut pen, three);
-    first.learn(pen.tell());
-    let shown = looks_as_made(alloc, first);
-    pen.end(rt);
-    Ok(shown)
-}
-
-#[test]
-fn a_guard_has_the_edges_of_a_view_of_its_map(rt: HostRuntime) -> Result<(), Fail> {
-    let alloc = rt.alloc();
-    let (one, two, three, _) = two_channels(alloc)?;
-    assert_eq!(rt;
-        told_of_three(&rt, alloc, (one, two, three))?,
-        Some((3, true))
-    );
     Ok(())
 }
 

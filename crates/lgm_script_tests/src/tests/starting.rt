@@ -1,4 +1,6 @@
-use crate::broken_devices::{BrokenSource, FullSink};
+//! The program by `start`, between devices that fail.
+
+use super::broken_devices::{BrokenSource, FullSink};
 use lgm_par::Gate;
 use lgm_script::{Failures, MemorySink, MemorySource, Sink, Source};
 use lgm_start::{read_words, refuse, start, start_with_gate};

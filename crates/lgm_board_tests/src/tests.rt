@@ -1,7 +1,9 @@
-//! `lgm_publish`: boards and worlds over one channel, with answers that were worked out by hand.
+//! Boards and worlds over one channel, with answers that were worked out by hand.
 
 mod boards;
+mod bounds;
 mod refused;
+mod seeds;
 mod shown;
 mod two_channels;
 mod worlds;

@@ -1,6 +1,6 @@
-// What the words decide: the number of workers; and the line of a run that failed.
+//! What the words decide: the number of workers; and the line of a run that failed.
 
-use crate::tests::{CHAIN, Given, started, started_in};
+use super::starting::{CHAIN, Given, started, started_in};
 use lgm_answers::RunFault;
 use lgm_par::Gate;
 use lgm_start::fault_line;

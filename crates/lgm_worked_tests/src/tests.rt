@@ -1,4 +1,0 @@
-mod examples;
-mod faults;
-mod pieces;
-mod views;
