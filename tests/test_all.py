@@ -90,10 +90,10 @@ def fails(place):
 
 def leaves_out_what_has_no_time(place):
     """Too few minutes, and missing tools, leave a part out, which is said and fails nothing."""
-    status, lines, last = place.run("--minutes", "49")
+    status, lines, last = place.run("--minutes", "24")
     assert (status, last) == (0, "21 passed, 0 failed"), lines
-    assert left_out(lines) == [f"{FILES[1]}, since fewer than 50 of 49 minutes were left for it"], lines
-    status, lines, last = place.run("--minutes", "9")
+    assert left_out(lines) == [f"{FILES[1]}, since fewer than 25 of 24 minutes were left for it"], lines
+    status, lines, last = place.run("--minutes", "7")
     assert (status, last, len(left_out(lines))) == (0, "12 passed, 0 failed", 2), lines
     status, lines, last = place.run(test_embedding="left out: the whole, which needs cc", test_embedding_status="77")
     assert (status, last, left_out(lines)) == (0, "21 passed, 0 failed", ["the whole, which needs cc"]), lines
