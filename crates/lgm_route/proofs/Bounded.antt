@@ -6,7 +6,7 @@ use Rattle.std.proofs.lemmas.List.{get_or_default, get_or_push, length_push, get
 use Rattle.lgm_graph.specs.Graph.{Graph, edges, edges_leaving, AreListed}
 use Rattle.lgm_graph.specs.declared.edge.Edge.{Edge}
 use Rattle.lgm_route.specs.declared.bounds.Measure.{Measure}
-use Rattle.lgm_route.specs.declared.request.NumberedRequest.{NumberedRequest}
+use Rattle.lgm_route.specs.inner.Numbered.{Ask}
 use Rattle.lgm_route.specs.inner.Searching.{number_at, no_edge, edge_at}
 use Rattle.lgm_route.specs.inner.Bounding.{AreLowBy, MayCarry, charged, IsLowered, IsSpread, IsRadius, AreCut, AreReached, bounds_in, is_closed, IsNear, IsLooked}
 use Rattle.lgm_route.proofs.Rests.{trichotomy}
@@ -14,7 +14,7 @@ use Rattle.lgm_route.proofs.Rests.{trichotomy}
 abbrev pub IsCut : ℕ → ℕ → ℕ → Type 0
 IsCut most old new = ((new ≡ old) × (old ≤ most)) ⊎ ((new ≡ most) × (most ≤ old))
 
-pub near_later : (measure : Measure) (request : NumberedRequest) (start nodes : ℕ) (dist after : List ℕ) (edge : Edge)
+pub near_later : (measure : Measure) (request : Ask) (start nodes : ℕ) (dist after : List ℕ) (edge : Edge)
     → ((other : ℕ) → number_at after other ≤ number_at dist other) →
     IsNear measure request start nodes dist edge → IsNear measure request start nodes after edge
 near_later measure request start nodes dist after edge falls near =
@@ -24,7 +24,7 @@ near_later measure request start nodes dist after edge falls near =
     }
 
 -- after fees are lowered, the same holds of closed nodes
-pub spread_lowered : (measure : Measure) (edges : List Edge) (request : NumberedRequest) (dist : List ℕ) (closed : List Bool)
+pub spread_lowered : (measure : Measure) (edges : List Edge) (request : Ask) (dist : List ℕ) (closed : List Bool)
     (node amount : ℕ) (after : List ℕ) (now : List Bool) →
     IsLowered dist closed node amount after now → IsSpread measure edges request dist closed → IsSpread measure edges request after now
 spread_lowered measure edges request dist closed node amount after now low is =
@@ -45,7 +45,7 @@ start_lowered dist closed node amount after now start at low h k = by (low.least
     by (inr p) = omega arith
 
 -- after an edge is relaxed
-pub looked : (measure : Measure) (request : NumberedRequest) (start amount node : ℕ) (edge : Edge) (dist : List ℕ)
+pub looked : (measure : Measure) (request : Ask) (start amount node : ℕ) (edge : Edge) (dist : List ℕ)
     (closed : List Bool) (after : List ℕ) (now : List Bool) →
     IsLowered dist closed node amount after now → node ≡ edge.to → start ≤ amount → (edge.from ≡ request.payer
     → amount ≤ start) → amount ≤ start + charged measure request edge →
@@ -64,7 +64,7 @@ looked measure request start amount node edge dist closed after now low to more 
     }
 
 -- one more edge out of the node was relaxed
-pub near_more : (measure : Measure) (request : NumberedRequest) (start nodes place : ℕ) (leaving : List Edge) (dist after : List ℕ) →
+pub near_more : (measure : Measure) (request : Ask) (start nodes place : ℕ) (leaving : List Edge) (dist after : List ℕ) →
     ((other : ℕ) → number_at after other ≤ number_at dist other) →
     ((j : ℕ) → j < place → IsNear measure request start nodes dist (edge_at leaving j)) → IsNear measure request start nodes after (edge_at leaving place) →
     (j : ℕ) → j < place + 1 → IsNear measure request start nodes after (edge_at leaving j)
@@ -76,7 +76,7 @@ near_more measure request start nodes place leaving dist after falls before new 
     by (inr (inr p)) = absurd (omega arith)
 
 -- the node is closed
-pub spread_closed : (measure : Measure) (graph : Graph) (request : NumberedRequest) (dist : List ℕ) (closed : List Bool) (node start : ℕ) →
+pub spread_closed : (measure : Measure) (graph : Graph) (request : Ask) (dist : List ℕ) (closed : List Bool) (node start : ℕ) →
     AreListed graph → length graph.points ≡ length dist → node < length closed → (node ≡ request.payer → start ≡ 0) → start ≤ number_at dist node →
     ((j : ℕ) → j < length (edges_leaving graph node) → IsNear measure request start (length dist) dist (edge_at (edges_leaving graph node) j)) →
     IsSpread measure (edges graph) request dist closed → IsSpread measure (edges graph) request dist (set closed node true)
@@ -118,7 +118,7 @@ spread_closed measure graph request dist closed node start listed long within no
     at_first edge there may from shut (inr (inr p)) = is.first edge there (before edge.from (λ e. omega (arith, p)) shut) may from
 
 -- cut at the radius, the fees are lower bounds
-pub low_of : (measure : Measure) (edges : List Edge) (request : NumberedRequest) (dist : List ℕ) (closed : List Bool) (most : ℕ) (after : List ℕ) →
+pub low_of : (measure : Measure) (edges : List Edge) (request : Ask) (dist : List ℕ) (closed : List Bool) (most : ℕ) (after : List ℕ) →
     ((edge : Edge) → Contains edges edge → (edge.from < length dist) × (edge.to < length dist))
     → IsSpread measure edges request dist closed → IsRadius dist closed most → AreCut dist most after
     → AreLowBy measure edges request after
@@ -224,7 +224,7 @@ reached_same dist after reached node long here charged others are other within =
 
 -- ---- before the first step
 
-pub spread_first : (measure : Measure) (edges : List Edge) (request : NumberedRequest) (dist : List ℕ) (closed : List Bool)
+pub spread_first : (measure : Measure) (edges : List Edge) (request : Ask) (dist : List ℕ) (closed : List Bool)
     → ((node : ℕ) → is_closed closed node ≡ false) → number_at dist request.payer ≡ 0 →
     IsSpread measure edges request dist closed
 spread_first measure edges request dist closed none payer = record {

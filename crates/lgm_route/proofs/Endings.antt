@@ -1,11 +1,11 @@
 -- The start and the end of a search.
-use Rattle.std.proofs.Common.{◌≡◌, ℕ, ◌^◌, ◌<◌, ◌≤◌, List, [], ◌∷◌, length}
+use Rattle.std.proofs.Common.{◌≡◌, ℕ, ◌+◌, ◌*◌, ◌^◌, ◌<◌, ◌≤◌, List, [], ◌∷◌, length}
 use Rattle.std.proofs.Common.{Some, sym, ◌∙◌, ap, subst, arith}
 use Rattle.std.specs.List.{Contains}
 use Rattle.std.proofs.lemmas.List.{get_or_default}
 use Rattle.lgm_graph.specs.Graph.{Graph, edges, edges_leaving, AreListed}
 use Rattle.lgm_graph.specs.declared.edge.Edge.{Edge}
-use Rattle.lgm_route.specs.declared.request.NumberedRequest.{NumberedRequest}
+use Rattle.lgm_route.specs.inner.Numbered.{Ask}
 use Rattle.lgm_route.specs.declared.label.Label.{Label}
 use Rattle.lgm_route.specs.inner.Numbered.{sent, IsUsable, IsLeast, Precedes}
 use Rattle.lgm_route.specs.inner.Searching.{NotAfter, walk_key, no_edge, edge_at, Spells}
@@ -14,22 +14,24 @@ use Rattle.lgm_route.specs.inner.Searching.{IsFound}
 use Rattle.lgm_route.specs.inner.Searching.{IsUpperBound}
 use Rattle.lgm_route.proofs.Orders.{NotAfter-excludes}
 use Rattle.lgm_route.proofs.Labels.{Spells-unique}
+use Rattle.lgm_route.proofs.Rests.{penalties_light}
 
 -- the payer's edges carry no more than the upper bound
-pub start_of : (graph : Graph) (most : ℕ) (request : NumberedRequest) → AreListed graph →
+pub start_of : (graph : Graph) (most : ℕ) (request : Ask) → AreListed graph → most ≤ 2 ^ 64 →
     ((j : ℕ) → j < length (edges_leaving graph request.payer)
-    → (edge_at (edges_leaving graph request.payer) j).max < most) → IsUpperBound (edges graph) request most
-start_of graph most request listed above [] usable = absurd (omega (arith, usable.some))
-start_of graph most request listed above (edge ∷ rest) usable =
+    → (edge_at (edges_leaving graph request.payer) j).max < most) → IsUpperBound (edges graph) request (most + 20 * 2 ^ 40)
+start_of graph most request listed small above [] usable = absurd (omega (arith, usable.some))
+start_of graph most request listed small above (edge ∷ rest) usable =
     let step = usable.joins.0 in
     let run = edges_leaving graph request.payer in
     let place : Contains run edge = subst (λ n. Contains (edges_leaving graph n) edge) step.leaves (listed.each edge step.there).leaves in
     let same : edge_at run place.0 ≡ edge = subst (λ e. e ≡ edge) (get_or_default run place.0 edge no_edge place.1) place.2 in
     let max = above place.0 place.1 in
-    (edge ∷ rest, usable, omega (arith, step.below_max, max, ap (λ e. e.max) same))
+    let carried = ap (λ e. e.max) same in
+    (omega (arith, step.below_max, max, carried, penalties_light request rest, usable.few), omega (arith, step.below_max, max, carried, small))
 
 -- the best walk so far, once none is better, is the best
-pub least_of : (graph : Graph) (request : NumberedRequest) (labels : List Label) (upper_bound : ℕ) (found : Label) (walk : List Edge) →
+pub least_of : (graph : Graph) (request : Ask) (labels : List Label) (upper_bound : ℕ) (found : Label) (walk : List Edge) →
     ((other : List Edge) → IsUsable (edges graph) request other → IsNoBetter graph request labels upper_bound
     (Some found) other) → IsFound graph request labels upper_bound (Some found) →
     Spells graph labels found walk → length walk ≡ found.hops → IsLeast (edges graph) request walk
@@ -54,8 +56,15 @@ least_of graph request labels upper_bound found walk best is spells long =
         NotAfter-excludes (walk_key request (is.0).0) (walk_key request other)
         (subst (λ w. NotAfter (walk_key request w) (walk_key request other)) (same h.0 h.1 ∙ sym (same (is.0).0 (is.0).1)) h.2) before
 
-pub sent_small : (graph : Graph) (request : NumberedRequest) (labels : List Label) (upper_bound : ℕ) (found : Label) (walk : List Edge) → upper_bound ≤ 2 ^ 64 →
+pub sent_small : (graph : Graph) (request : Ask) (labels : List Label) (upper_bound : ℕ) (found : Label) (walk : List Edge) → IsUpperBound (edges graph) request upper_bound →
     IsFound graph request labels upper_bound (Some found) → Spells graph labels found walk → length walk ≡ found.hops → sent request.amount walk < 2 ^ 64
-sent_small graph request labels upper_bound found walk low is spells long =
+sent_small graph request labels upper_bound found walk upper is spells long =
     let same = Spells-unique graph labels found (is.0).0 walk (is.0).1.spells spells ((is.0).1.long ∙ sym long) in
-    omega (arith, is.1, (is.0).1.sends, ap (λ w. sent request.amount w) same)
+    let w = (is.0).1 in
+    let usable : IsUsable (edges graph) request (is.0).0 = record {
+      some = omega (arith, w.some, w.long);
+      few = omega (arith, w.few, w.long);
+      joins = w.joins;
+      in_time = w.in_time;
+    } in
+    omega (arith, (upper (is.0).0 usable).1, ap (λ w. sent request.amount w) same)

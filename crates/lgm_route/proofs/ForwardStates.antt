@@ -5,7 +5,7 @@ use Rattle.std.specs.List.{Contains}
 use Rattle.lgm_graph.specs.Graph.{Graph, edges, edges_leaving, AreListed}
 use Rattle.lgm_graph.specs.declared.edge.Edge.{Edge}
 use Rattle.lgm_route.specs.declared.bounds.Measure.{Measure}
-use Rattle.lgm_route.specs.declared.request.NumberedRequest.{NumberedRequest}
+use Rattle.lgm_route.specs.inner.Numbered.{Ask}
 use Rattle.lgm_route.specs.inner.Searching.{number_at, edge_at}
 use Rattle.lgm_route.specs.inner.Bounding.{IsNear, IsLooked, IsLowered, IsRadius, AreLowBy, AreReached, bounds_in, is_closed}
 use Rattle.lgm_route.specs.inner.ForwardState.{ForwardState, forward_state, IsForwardState, IsSameForwardState, AreNear}
@@ -20,7 +20,7 @@ same_pass-trans a b c first second = record {
 }
 
 -- the fees to the edge's start are no less than these
-near_raised : (measure : Measure) (request : NumberedRequest) (start more nodes : ℕ) (dist : List ℕ) (edge : Edge) → start ≤ more
+near_raised : (measure : Measure) (request : Ask) (start more nodes : ℕ) (dist : List ℕ) (edge : Edge) → start ≤ more
     → IsNear measure request start nodes dist edge → IsNear measure request more nodes dist edge
 near_raised measure request start more nodes dist edge le near = record {
   over = λ to may. omega (arith, le, near.over to may);
@@ -54,7 +54,7 @@ near_all first last start place node run same own all low near =
 -- ---- the invariant
 
 -- before the first step
-pub first_pass : (graph : Graph) (request : NumberedRequest) (measure : Measure) (dist : List ℕ) (closed : List Bool) → AreListed graph
+pub first_pass : (graph : Graph) (request : Ask) (measure : Measure) (dist : List ℕ) (closed : List Bool) → AreListed graph
     → length graph.points ≡ length dist → length closed ≡ length dist → ((node : ℕ) → is_closed closed node ≡ false)
     → number_at dist request.payer ≡ 0
     → ((node : ℕ) → node < length dist → (node ≡ request.payer) ⊎ (number_at dist node ≡ 2 ^ 64 - 1))

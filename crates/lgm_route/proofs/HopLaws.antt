@@ -7,7 +7,7 @@ use Rattle.lgm_graph.specs.Edges.{PointEdge}
 use Rattle.lgm_graph.specs.Graph.{Graph, edges, AreListed}
 use Rattle.lgm_graph.specs.declared.edge.Edge.{Edge}
 use Rattle.lgm_route.specs.declared.request.Request.{Request}
-use Rattle.lgm_route.specs.declared.request.NumberedRequest.{NumberedRequest}
+use Rattle.lgm_route.specs.inner.Numbered.{Ask}
 use Rattle.lgm_graph.specs.declared.route.Hop.{Hop}
 use Rattle.lgm_route.specs.Routes.{owed, due, hops_of}
 use Rattle.lgm_route.specs.inner.Numbered as walks
@@ -69,7 +69,7 @@ owed_fits graph request walk i owes falls hops lt carried are =
 
 -- ---- the walk that was found
 
-pub walk_numbered : (graph : Graph) → AreListed graph → (numbered : NumberedRequest) (walk : List Edge)
+pub walk_numbered : (graph : Graph) → AreListed graph → (numbered : Ask) (walk : List Edge)
     (node : ℕ) → walks.IsRest (edges graph) numbered node (walk) → AreNumbered graph walk
 walk_numbered graph listed numbered [] node joins = tt
 walk_numbered graph listed numbered (edge ∷ rest) node joins =

@@ -5,15 +5,15 @@ use Rattle.std.proofs.Common.{length-append}
 use Rattle.std.proofs.lemmas.List.{get_or_append_left, append_assoc, append-nil}
 use Rattle.lgm_graph.specs.Graph.{Graph, edges, edges_into}
 use Rattle.lgm_graph.specs.declared.edge.Edge.{Edge}
-use Rattle.lgm_route.specs.declared.request.NumberedRequest.{NumberedRequest}
+use Rattle.lgm_route.specs.inner.Numbered.{Ask}
 use Rattle.lgm_route.specs.declared.label.Label.{Label}
-use Rattle.lgm_route.specs.inner.Numbered.{owed, sent, counted, delay, most_delay, IsRest, IsStep, IsUsable}
+use Rattle.lgm_route.specs.inner.Numbered.{owed, worth, counted, delay, most_delay, IsRest, IsStep, IsUsable}
 use Rattle.lgm_route.specs.inner.Searching.{Low, cost, walk_key, Dominates, label_at, no_label, number_at, Spells, IsLabel, IsWalk, bound_of, IsNoBetter, Has}
-use Rattle.lgm_route.specs.inner.Searching.{IsHopeless, Reaches, IsRelaxed, IsLeft, IsSettled, AreLabels, IsFound, Grows, Begins, first_of, edge_at}
+use Rattle.lgm_route.specs.inner.Searching.{IsHopeless, Reaches, IsRelaxed, IsLeft, IsSettled, AreLabels, IsFound, Grows, Begins, first_of, edge_at, IsUpperBound}
 use Rattle.lgm_route.specs.inner.Bounding.{AreLow, MayCarry}
 use Rattle.lgm_route.proofs.Orders.{NotAfter-trans}
-use Rattle.lgm_route.proofs.Rests.{Dominates-refl, Dominates-trans, Dominates-owed, Dominates-prepend, Dominates-walk}
-use Rattle.lgm_route.proofs.Rests.{step-cheaper, walk_less, fee-monotone, owed-least}
+use Rattle.lgm_route.proofs.Rests.{Dominates-refl, Dominates-trans, Dominates-owed, Dominates-weight, Dominates-prepend, Dominates-walk}
+use Rattle.lgm_route.proofs.Rests.{penalty-rises, step-cheaper, walk_less, fee-monotone, owed-least}
 
 -- a label represents one rest
 pub Spells-unique : (graph : Graph) (labels : List Label) (label : Label) (rest also : List Edge) →
@@ -26,7 +26,7 @@ Spells-unique graph labels label (edge ∷ rest) (other ∷ also) h k e =
     let tail : rest ≡ also = Spells-unique graph labels (label_at labels label.parent) rest also h.2 k.2 (omega arith) in
     cc
 
-pub label-unique : (graph : Graph) (request : NumberedRequest) (labels : List Label) (label : Label) (rest also : List Edge) →
+pub label-unique : (graph : Graph) (request : Ask) (labels : List Label) (label : Label) (rest also : List Edge) →
     IsLabel graph request labels label rest → IsLabel graph request labels label also → rest ≡ also
 label-unique graph request labels label rest also h k = Spells-unique graph labels label rest also h.spells k.spells (h.long ∙ sym k.long)
 
@@ -57,12 +57,12 @@ Spells-grows graph labels more label (edge ∷ rest) h = (
       (Spells-grows graph labels more (label_at labels label.parent) rest h.2),
 )
 
-pub label-grows : (graph : Graph) (request : NumberedRequest) (labels more : List Label) (label : Label) (rest : List Edge) →
+pub label-grows : (graph : Graph) (request : Ask) (labels more : List Label) (label : Label) (rest : List Edge) →
     IsLabel graph request labels label rest → IsLabel graph request (labels ++ more) label rest
 label-grows graph request labels more label rest h =
-    record { spells = Spells-grows graph labels more label rest h.spells; long = h.long; joins = h.joins; owes = h.owes; waits = h.waits; in_time = h.in_time }
+    record { spells = Spells-grows graph labels more label rest h.spells; long = h.long; joins = h.joins; owes = h.owes; spends = h.spends; waits = h.waits; in_time = h.in_time }
 
-pub walk-grows : (graph : Graph) (request : NumberedRequest) (labels more : List Label) (label : Label) (walk : List Edge) →
+pub walk-grows : (graph : Graph) (request : Ask) (labels more : List Label) (label : Label) (walk : List Edge) →
     IsWalk graph request labels label walk → IsWalk graph request (labels ++ more) label walk
 walk-grows graph request labels more label walk h =
     record {
@@ -72,10 +72,11 @@ walk-grows graph request labels more label walk h =
       few = h.few;
       joins = h.joins;
       sends = h.sends;
+      costs = h.costs;
       in_time = h.in_time;
     }
 
-pub has-grows : (graph : Graph) (request : NumberedRequest) (labels more : List Label) (node : ℕ) (rest : List Edge) →
+pub has-grows : (graph : Graph) (request : Ask) (labels more : List Label) (node : ℕ) (rest : List Edge) →
     Has graph request labels node rest → Has graph request (labels ++ more) node rest
 has-grows graph request labels more node rest h =
     let same = label_left labels more h.place h.within in
@@ -90,22 +91,28 @@ has-grows graph request labels more node rest h =
       dominates = h.dominates;
     }
 
-pub no_better-grows : (graph : Graph) (request : NumberedRequest) (labels more : List Label) (upper_bound : ℕ) (found : Option Label) (walk : List Edge) →
+pub no_better-grows : (graph : Graph) (request : Ask) (labels more : List Label) (upper_bound : ℕ) (found : Option Label) (walk : List Edge) →
     IsNoBetter graph request labels upper_bound found walk → IsNoBetter graph request (labels ++ more) upper_bound found walk
 no_better-grows graph request labels more upper_bound None walk h = h
 no_better-grows graph request labels more upper_bound (Some found) walk h = (h.0, walk-grows graph request labels more found h.0 h.1, h.2)
 
-pub found-grows : (graph : Graph) (request : NumberedRequest) (labels more : List Label) (upper_bound : ℕ) (found : Option Label) →
+pub found-grows : (graph : Graph) (request : Ask) (labels more : List Label) (upper_bound : ℕ) (found : Option Label) →
     IsFound graph request labels upper_bound found → IsFound graph request (labels ++ more) upper_bound found
 found-grows graph request labels more upper_bound None h = tt
 found-grows graph request labels more upper_bound (Some found) h = (((h.0).0, walk-grows graph request labels more found (h.0).0 (h.0).1), h.1)
 
 -- a rest that dominates another can be pruned only if that one can
-pub hopeless-dominates : (request : NumberedRequest) (low : Low) (bound node : ℕ) (a b : List Edge) → Dominates request a b →
+pub hopeless-dominates : (request : Ask) (low : Low) (bound node : ℕ) (a b : List Edge) → Dominates request a b →
     IsHopeless request low bound node a → IsHopeless request low bound node b
-hopeless-dominates request low bound node a b h hopeless = omega (arith, hopeless, h.fewer, Dominates-owed request a b h)
+hopeless-dominates request low bound node a b h (inl hopeless) = inl (omega (arith, hopeless, h.fewer, Dominates-weight request a b h))
+hopeless-dominates request low bound node a b h (inr much) = inr (omega (arith, much, h.cheaper))
 
-pub reaches-dominates : (graph : Graph) (request : NumberedRequest) (low : Low) (upper_bound : ℕ)
+hopeless-lower : (request : Ask) (low : Low) (bound lower node : ℕ) (rest : List Edge) → lower ≤ bound →
+    IsHopeless request low bound node rest → IsHopeless request low lower node rest
+hopeless-lower request low bound lower node rest less (inl h) = inl (omega (arith, h, less))
+hopeless-lower request low bound lower node rest less (inr h) = inr h
+
+pub reaches-dominates : (graph : Graph) (request : Ask) (low : Low) (upper_bound : ℕ)
     (labels : List Label) (found : Option Label) (node : ℕ) (a b : List Edge) → Dominates request a b →
     Reaches graph request low upper_bound labels found node a → Reaches graph request low upper_bound labels found node b
 reaches-dominates graph request low upper_bound labels found node a b h (inl has) =
@@ -121,7 +128,7 @@ reaches-dominates graph request low upper_bound labels found node a b h (inr hop
     inr (hopeless-dominates request low (bound_of upper_bound found) node a b h hopeless)
 
 -- what is preserved as the search grows
-module _ (graph : Graph) (request : NumberedRequest) (low : Low) (upper_bound : ℕ) (labels : List Label)
+module _ (graph : Graph) (request : Ask) (low : Low) (upper_bound : ℕ) (labels : List Label)
     (found : Option Label) (after : List Label) (now : Option Label)
     (grows : Grows graph request upper_bound labels found after now) where
   pub has-later : (node : ℕ) (rest : List Edge) → Has graph request labels node rest → Has graph request after node rest
@@ -139,7 +146,7 @@ module _ (graph : Graph) (request : NumberedRequest) (low : Low) (upper_bound : 
   pub reaches-later : (node : ℕ) (rest : List Edge) → Reaches graph request low upper_bound labels found node rest
       → Reaches graph request low upper_bound after now node rest
   reaches-later node rest (inl h) = inl (has-later node rest h)
-  reaches-later node rest (inr h) = inr (omega (arith, h, grows.lower))
+  reaches-later node rest (inr h) = inr (hopeless-lower request low (bound_of upper_bound found) (bound_of upper_bound now) node rest grows.lower h)
 
   pub passed-later : (edge : Edge) (rest : List Edge) → IsRelaxed graph request low upper_bound labels found edge
       rest → IsRelaxed graph request low upper_bound after now edge rest
@@ -157,14 +164,14 @@ module _ (graph : Graph) (request : NumberedRequest) (low : Low) (upper_bound : 
           × Dominates request other h.rest × IsLeft graph request low upper_bound labels found label.node other) →
           IsHopeless request low (bound_of upper_bound now) label.node h.rest ⊎ ((other : List Edge)
           × Dominates request other h.rest × IsLeft graph request low upper_bound after now label.node other)
-      by (inl p) = inl (omega (arith, p, grows.lower))
+      by (inl p) = inl (hopeless-lower request low (bound_of upper_bound found) (bound_of upper_bound now) label.node h.rest grows.lower p)
       by (inr p) = inr (p.0, p.1, left-later label.node p.0 p.2)
 
-pub grows-refl : (graph : Graph) (request : NumberedRequest) (upper_bound : ℕ) (labels : List Label)
+pub grows-refl : (graph : Graph) (request : Ask) (upper_bound : ℕ) (labels : List Label)
     (found : Option Label) → Grows graph request upper_bound labels found labels found
 grows-refl graph request upper_bound labels found = record { more = []; is = sym (append-nil labels); lower = omega arith; first = λ walk h. h }
 
-pub grows-trans : (graph : Graph) (request : NumberedRequest) (upper_bound : ℕ) (a b c : List Label) (x y z : Option Label) →
+pub grows-trans : (graph : Graph) (request : Ask) (upper_bound : ℕ) (a b c : List Label) (x y z : Option Label) →
     Grows graph request upper_bound a x b y → Grows graph request upper_bound b y c z → Grows graph request upper_bound a x c z
 grows-trans graph request upper_bound a b c x y z h k =
     record {
@@ -175,7 +182,7 @@ grows-trans graph request upper_bound a b c x y z h k =
     }
 
 -- once all labels are settled, every rest is reached
-module _ (graph : Graph) (request : NumberedRequest) (low : Low) (upper_bound : ℕ) (labels : List Label) (found : Option Label)
+module _ (graph : Graph) (request : Ask) (low : Low) (upper_bound : ℕ) (labels : List Label) (found : Option Label)
     (labelled : AreLabels graph request labels) (are_low : AreLow (edges graph) request low)
     (settled : (i : ℕ) → i < length labels → IsSettled graph request low upper_bound labels found (label_at labels i)) where
   -- a rest with a label is pruned, or one that dominates it was relaxed
@@ -213,12 +220,14 @@ module _ (graph : Graph) (request : NumberedRequest) (low : Low) (upper_bound : 
   hopeless_on : (node : ℕ) (edge : Edge) (rest : List Edge) → IsStep (edges graph) request node edge rest →
       delay request.limit (edge ∷ rest) ≤ most_delay request.limit →
       IsHopeless request low (bound_of upper_bound found) edge.to rest → IsHopeless request low (bound_of upper_bound found) node (edge ∷ rest)
-  hopeless_on node edge rest step timely h =
+  hopeless_on node edge rest step timely (inr much) = inr (omega (arith, much))
+  hopeless_on node edge rest step timely (inl h) =
       let least = owed-least request.amount rest in
       let rises = are_low.fees.rises edge step.there (may_carry node edge rest step timely) in
       let fees = fee-monotone request.amount (owed request.amount rest) edge.base edge.millionths least in
+      let penalty = penalty-rises request.terms edge request.amount (owed request.amount rest) least in
       let from = ap (λ n. number_at low.fees n) step.leaves in
-      omega (arith, h, rises, fees, from)
+      inl (omega (arith, h, rises, fees, penalty, from))
 
   pub all_reached : (rest : List Edge) (node : ℕ) → IsRest (edges graph) request node rest → length rest ≤ 19
       → delay request.limit rest + number_at low.delays node ≤ most_delay request.limit
@@ -265,16 +274,16 @@ module _ (graph : Graph) (request : NumberedRequest) (low : Low) (upper_bound : 
 
   -- so no usable walk is better than the best
   no_better_by : (walk : List Edge) (o : Option Label) → IsFound graph request labels upper_bound o
-      → length walk ≤ 20 → bound_of upper_bound o < cost (sent request.amount walk) (length walk) →
+      → length walk ≤ 20 → bound_of upper_bound o < cost (worth request walk) (length walk) →
       IsNoBetter graph request labels upper_bound o walk
   no_better_by walk None is few p = omega arith
   no_better_by walk (Some best) is few p =
       let w = (is.0).1 in
-      ((is.0).0, w, walk_less request (is.0).0 walk (omega (arith, w.long, w.few)) few (omega (arith, p, w.sends, w.long)))
+      ((is.0).0, w, walk_less request (is.0).0 walk (omega (arith, w.long, w.few)) few (omega (arith, p, w.costs, w.long)))
 
   served_by : (edge : Edge) (a b : List Edge) (o : Option Label) → Dominates request a b → IsNoBetter graph
       request labels upper_bound o (edge ∷ a) → IsNoBetter graph request labels upper_bound o (edge ∷ b)
-  served_by edge a b None h p = omega (arith, p, Dominates-owed request a b h)
+  served_by edge a b None h p = omega (arith, p, Dominates-weight request a b h)
   served_by edge a b (Some best) h p = (
     p.0,
     p.1,
@@ -282,10 +291,10 @@ module _ (graph : Graph) (request : NumberedRequest) (low : Low) (upper_bound : 
         (Dominates-walk request edge a b h),
   )
 
-  pub none_better : IsFound graph request labels upper_bound found → (walk : List Edge)
+  pub none_better : IsUpperBound (edges graph) request upper_bound → IsFound graph request labels upper_bound found → (walk : List Edge)
       → IsUsable (edges graph) request walk → IsNoBetter graph request labels upper_bound found walk
-  none_better is [] usable = absurd (omega (arith, usable.some))
-  none_better is (edge ∷ rest) usable =
+  none_better upper is [] usable = absurd (omega (arith, usable.some))
+  none_better upper is (edge ∷ rest) usable =
       by (onward edge.to rest (all_reached rest edge.to usable.joins.1 (omega (arith, usable.few))
       (omega (arith, usable.in_time, are_low.delays.none edge step.there carries step.leaves))))
     where
@@ -300,9 +309,10 @@ module _ (graph : Graph) (request : NumberedRequest) (low : Low) (upper_bound : 
       }
 
       by : Onward edge.to rest → IsNoBetter graph request labels upper_bound found (edge ∷ rest)
-      by (inl h) =
+      by (inl (inl h)) =
           let none = are_low.fees.none edge step.there carries step.leaves in
           no_better_by (edge ∷ rest) found is usable.few (omega (arith, h, none))
+      by (inl (inr much)) = absurd (omega (arith, much, (upper (edge ∷ rest) usable).1))
       by (inr h) =
           let cheaper = step-cheaper (edges graph) request request.payer edge h.0 rest (Dominates-owed request h.0 rest h.1) step in
           let passed = h.2 edge step.there refl step.above_min cheaper.below_max in

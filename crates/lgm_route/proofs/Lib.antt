@@ -14,4 +14,5 @@ pub mod Visits
 pub mod ChoiceLaws
 pub mod ChoiceWithinLaws
 pub mod WithinLaws
+pub mod PreferredLaws
 mod NarrowedEdgeLaws

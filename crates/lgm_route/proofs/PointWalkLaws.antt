@@ -1,5 +1,5 @@
 -- From numbered nodes to points: the walks over numbered edges are those over edges between points.
-use Rattle.std.proofs.Common.{◌≡◌, ℕ, zero, suc, ◌+◌, ◌<◌, ◌≤◌, List, [], Option}
+use Rattle.std.proofs.Common.{◌≡◌, ◌⊎◌, ℕ, zero, suc, ◌+◌, ◌<◌, ◌≤◌, List, [], Option, inl, inr}
 use Rattle.std.proofs.Common.{◌∷◌, length, get_or, map, Some, None, refl, sym, ◌∙◌, ap, subst, arith}
 use Rattle.std.specs.Prelude.{Contains}
 use Rattle.std.specs.List.{position}
@@ -14,13 +14,18 @@ use Rattle.lgm_graph.specs.declared.edge.Edge.{Edge}
 use Rattle.lgm_graph.specs.Graph.{Graph, number_of, IsNumbered, no_point, edge_between, edges, point_edges, AreListed}
 use Rattle.lgm_graph.proofs.Numbers.{number_none, number_some, get_number}
 use Rattle.lgm_route.specs.declared.request.Request.{Request}
-use Rattle.lgm_route.specs.declared.request.NumberedRequest.{NumberedRequest}
+use Rattle.lgm_route.specs.inner.Numbered.{Ask}
 use Rattle.lgm_route.specs.Routes as routes
 use Rattle.lgm_route.specs.inner.Numbered as walks
-use Rattle.lgm_route.specs.inner.Best.{IsInTime, IsUsableFor, IsLeastFor, IsBestFor, IsFoundFor}
+use Rattle.lgm_route.specs.inner.Best.{IsBestBy, AreAlike, IsFoundFor, IsAnswerFor, free}
+use Rattle.lgm_route.specs.Answers.{refusal, IsAnswerBy}
+use Rattle.lgm_route.specs.Within.{IsAnswerWithin, IsAnswerWithinBy}
+use Rattle.lgm_route.specs.Preferred as preferred
+use Rattle.lgm_route.specs.Preferred.{IsInTime, IsLeastBy, IsFoundBy, IsPreferred}
 use Rattle.lgm_graph.specs.declared.route.Hop.{Hop}
-use Rattle.lgm_route.specs.declared.fault.RouteFault.TheVariants.{NoRoute}
-use Rattle.std.specs.Prelude.{Ok, Err}
+use Rattle.lgm_route.specs.declared.fault.RouteFault.{RouteFault}
+use Rattle.lgm_route.specs.declared.fault.RouteFault.TheVariants.{NoRoute, NoMemory}
+use Rattle.std.specs.Prelude.{Result, Ok, Err}
 
 -- ---- lists
 
@@ -60,14 +65,30 @@ ids_over : (points : List Point) (walk : List Edge) → routes.ids (over points 
 ids_over points [] = refl
 ids_over points (by_number ∷ rest) = ap (λ l. by_number.scid ∷ l) (ids_over points rest)
 
-abbrev key : ℕ → List Edge → List ℕ
-key amount walk = walks.sent amount walk ∷ length walk ∷ walks.ids walk
+penalties_over : (graph : Graph) (terms : Option walks.Terms) (penalty : PointEdge → ℕ → ℕ) → AreAlike graph terms penalty → (amount : ℕ)
+    (walk : List Edge) → preferred.penalties penalty amount (over graph.points walk) ≡ walks.penalties terms amount walk
+penalties_over graph terms penalty alike amount [] = refl
+penalties_over graph terms penalty alike amount (by_number ∷ rest) =
+    let later = penalties_over graph terms penalty alike amount rest in
+    let carried = ap (penalty (edge_between graph.points by_number)) (owed_over graph.points amount rest) in
+    omega (arith, later, carried, alike by_number (walks.owed amount rest))
 
-abbrev key_over : ℕ → List PointEdge → List ℕ
-key_over amount walk = routes.sent amount walk ∷ length walk ∷ routes.ids walk
+worth_over : (graph : Graph) (request : Ask) (penalty : PointEdge → ℕ → ℕ) → AreAlike graph request.terms penalty
+    → (walk : List Edge) → preferred.worth penalty request.amount (over graph.points walk) ≡ walks.worth request walk
+worth_over graph request penalty alike [] = refl
+worth_over graph request penalty alike (by_number ∷ rest) =
+    omega (arith, owed_over graph.points request.amount rest, penalties_over graph request.terms penalty alike request.amount rest)
 
-keys_same : (points : List Point) (amount : ℕ) (walk : List Edge) → key_over amount (over points walk) ≡ key amount walk
-keys_same points amount walk = rw (sent_over points amount walk, length-map walk (edge_between points), ids_over points walk) refl
+abbrev key : Ask → List Edge → List ℕ
+key request walk = walks.worth request walk ∷ length walk ∷ walks.ids walk
+
+abbrev key_over : (PointEdge → ℕ → ℕ) → ℕ → List PointEdge → List ℕ
+key_over penalty amount walk = preferred.worth penalty amount walk ∷ length walk ∷ routes.ids walk
+
+keys_same : (graph : Graph) (request : Ask) (penalty : PointEdge → ℕ → ℕ) → AreAlike graph request.terms penalty
+    → (walk : List Edge) → key_over penalty request.amount (over graph.points walk) ≡ key request walk
+keys_same graph request penalty alike walk =
+    rw (worth_over graph request penalty alike walk, length-map walk (edge_between graph.points), ids_over graph.points walk) refl
 
 -- ---- limits
 
@@ -92,47 +113,72 @@ time_back points None (by_number ∷ rest) h = omega (arith, no_delay rest)
 time_back points (Some limit) [] h = h
 time_back points (Some limit) (by_number ∷ rest) h = omega (arith, h, delay_over points limit rest)
 
--- a usable walk within the limit, if there is one
-pub usable_parts : (limit : Option ℕ) (edges : List PointEdge) (request : Request) (walk : List PointEdge)
-    → IsUsableFor limit edges request walk → routes.IsUsable edges request walk × IsInTime limit walk
-usable_parts None edges request walk usable = (usable, tt)
-usable_parts (Some limit) edges request walk usable = (usable.usable, usable.in_time)
+-- what is found is the best walk
+pub found_none : (penalty : PointEdge → ℕ → ℕ) (limit : Option ℕ) (edges : List PointEdge) (request : Request)
+    → IsBestBy penalty limit edges request None → IsFoundBy penalty limit edges request (Err NoRoute)
+found_none penalty limit edges request none = (refl, none)
 
-least_for : (limit : Option ℕ) (edges : List PointEdge) (request : Request) (walk : List PointEdge)
-    → routes.IsUsable edges request walk → IsInTime limit walk →
-    ((other : List PointEdge) → routes.IsUsable edges request other → IsInTime limit other
-    → routes.Precedes request other walk → ⊥) → IsLeastFor limit edges request walk
-least_for None edges request walk usable timely first = record { usable = usable; first = λ other able. first other able tt }
-least_for (Some limit) edges request walk usable timely first =
-    record {
-      usable = record { usable = usable; in_time = timely };
-      first = λ other able. first other able.usable able.in_time;
-    }
+-- without penalties it is the walk that sends least
+no_penalties : (amount : ℕ) (walk : List PointEdge) → preferred.penalties free amount walk ≡ 0
+no_penalties amount [] = refl
+no_penalties amount (edge ∷ rest) = omega (arith, no_penalties amount rest)
 
--- the best walk for a limit is usable
-pub least_parts : (limit : Option ℕ) (edges : List PointEdge) (request : Request) (walk : List PointEdge)
-    → IsLeastFor limit edges request walk → routes.IsUsable edges request walk
-least_parts None edges request walk least = least.usable
-least_parts (Some limit) edges request walk least = least.usable.usable
+free_worth : (amount : ℕ) (walk : List PointEdge) → routes.sent amount walk ≡ preferred.worth free amount walk
+free_worth amount [] = refl
+free_worth amount (edge ∷ rest) = omega (arith, no_penalties amount rest)
 
--- what is found is the best walk for the limit
-pub found_none : (limit : Option ℕ) (edges : List PointEdge) (request : Request) → IsBestFor limit edges request None
-    → IsFoundFor limit edges request (Err NoRoute)
-found_none None edges request none = (refl, none)
-found_none (Some limit) edges request none = (refl, none)
+free_order : (request : Request) (walk other : List PointEdge) → routes.Precedes request walk other → IsPreferred free request walk other
+free_order request walk other h =
+    let left = ap (λ n. n ∷ length walk ∷ routes.ids walk) (free_worth request.amount walk) in
+    let right = ap (λ n. n ∷ length other ∷ routes.ids other) (free_worth request.amount other) in
+    sym (ap (λ k. slice_cmp nat_cmp k (routes.walk_key request other)) left
+    ∙ ap (slice_cmp nat_cmp (preferred.worth_key free request walk)) right) ∙ h
 
-pub found_some : (limit : Option ℕ) (edges : List PointEdge) (request : Request) (hops : List Hop)
-    → IsBestFor limit edges request (Some hops) → IsFoundFor limit edges request (Ok hops)
-found_some None edges request hops best = best
-found_some (Some limit) edges request hops best = best
+pub found_free : (limit : Option ℕ) (edges : List PointEdge) (request : Request) (found : Result (List Hop) RouteFault)
+    → IsFoundBy free limit edges request found → IsFoundFor limit edges request found
+found_free None edges request (Ok hops) is = (
+  is.0,
+  record { usable = is.1.usable; first = λ other able before. is.1.first other able tt (free_order request other is.0 before) },
+  is.2,
+)
+found_free (Some limit) edges request (Ok hops) is = (
+  is.0,
+  record {
+    usable = record { usable = is.1.usable; in_time = is.1.in_time };
+    first = λ other able before. is.1.first other able.usable able.in_time (free_order request other is.0 before);
+  },
+  is.2,
+)
+found_free None edges request (Err fault) is = (is.0, λ walk able. is.1 walk able tt)
+found_free (Some limit) edges request (Err fault) is = (is.0, λ walk able. is.1 walk able.usable able.in_time)
+
+pub free_answer : {E : Type 0} (limit : Option ℕ) (edges : List PointEdge) (request : Request) (found : Result (List Hop) RouteFault)
+    → refusal request ≡ None → E ⊎ IsFoundBy free limit edges request found → E ⊎ IsAnswerFor limit edges request found
+free_answer limit edges request found allowed (inl e) = inl e
+free_answer None edges request found allowed (inr is) =
+    inr (subst (λ o. IsAnswerBy o edges request found) (sym allowed) (found_free None edges request found is))
+free_answer (Some limit) edges request found allowed (inr is) =
+    inr (subst (λ o. IsAnswerWithinBy o limit edges request found) (sym allowed) (found_free (Some limit) edges request found is))
+
+pub limited_ok : (limit : ℕ) (edges : List PointEdge) (request : Request) (found : Result (List Hop) RouteFault) (hops : List Hop)
+    → found ≡ Ok hops → (found ≡ Err NoMemory) ⊎ IsAnswerFor (Some limit) edges request found → IsAnswerWithin limit edges request (Ok hops)
+limited_ok limit edges request found hops same (inl e) = cc
+limited_ok limit edges request found hops same (inr is) = subst (IsAnswerWithin limit edges request) same is
+
+pub limited_err : (limit : ℕ) (edges : List PointEdge) (request : Request) (found : Result (List Hop) RouteFault) (fault : RouteFault)
+    → found ≡ Err fault → (found ≡ Err NoMemory) ⊎ IsAnswerFor (Some limit) edges request found
+    → (fault ≡ NoMemory) ⊎ IsAnswerWithin limit edges request (Err fault)
+limited_err limit edges request found fault same (inl e) = inl cc
+limited_err limit edges request found fault same (inr is) = inr (subst (IsAnswerWithin limit edges request) same is)
 
 -- ---- walks
 
 module _ (graph : Graph) (listed : AreListed graph) (request : Request) (payer payee : ℕ)
     (payer_is : position (is_point request.payer) graph.points ≡ Some payer)
-    (payee_is : position (is_point request.payee) graph.points ≡ Some payee) (limit : Option ℕ) where
-  abbrev numbered : NumberedRequest
-  numbered = record { payer = payer; payee = payee; amount = request.amount; limit = limit }
+    (payee_is : position (is_point request.payee) graph.points ≡ Some payee) (limit : Option ℕ)
+    (terms : Option walks.Terms) (penalty : PointEdge → ℕ → ℕ) (alike : AreAlike graph terms penalty) where
+  abbrev numbered : Ask
+  numbered = record { payer = payer; payee = payee; amount = request.amount; limit = limit; terms = terms }
 
   abbrev point_at : ℕ → Point
   point_at number = get_or graph.points number no_point
@@ -199,34 +245,32 @@ module _ (graph : Graph) (listed : AreListed graph) (request : Request) (payer p
       (back.0, back.1, record { some = let h = usable.some in omega arith; few = let h = usable.few in omega arith; joins = back.2; in_time = time_back graph.points limit back.0 (subst (IsInTime limit) (sym back.1) timely) })
 
   pub none_over : ((walk : List Edge) → walks.IsUsable (edges graph) numbered walk → ⊥) → (walk : List PointEdge)
-      → IsUsableFor limit (point_edges graph) request walk → ⊥
-  none_over none walk usable =
-      let parts = usable_parts limit (point_edges graph) request walk usable in
-      let back = usable_back walk parts.0 parts.1 in
-      none back.0 back.2
+      → routes.IsUsable (point_edges graph) request walk → IsInTime limit walk → ⊥
+  none_over none walk usable timely = let back = usable_back walk usable timely in none back.0 back.2
 
-  pub least_over : (walk : List Edge) → walks.IsLeast (edges graph) numbered walk → IsLeastFor limit (point_edges graph) request (over graph.points walk)
+  pub least_over : (walk : List Edge) → walks.IsLeast (edges graph) numbered walk → IsLeastBy penalty limit (point_edges graph) request (over graph.points walk)
   least_over walk least =
       let long = length-map walk (edge_between graph.points) in
-      least_for limit (point_edges graph) request (over graph.points walk)
-      (record {
-        some = let h = least.usable.some in omega arith;
-        few = let h = least.usable.few in omega arith;
-        joins =
-            subst (λ p. routes.IsRest (point_edges graph) request p (over graph.points walk))
-            (stands request.payer payer payer_is) (rest_over walk payer least.usable.joins);
-      })
-      (time_over graph.points limit walk least.usable.in_time)
-      (λ other usable timely before. first (usable_back other usable timely) before)
+      record {
+        usable = record {
+          some = let h = least.usable.some in omega arith;
+          few = let h = least.usable.few in omega arith;
+          joins =
+              subst (λ p. routes.IsRest (point_edges graph) request p (over graph.points walk))
+              (stands request.payer payer payer_is) (rest_over walk payer least.usable.joins);
+        };
+        in_time = time_over graph.points limit walk least.usable.in_time;
+        first = λ other usable timely before. first (usable_back other usable timely) before;
+      }
     where
       first : {other : List PointEdge} → (back : List Edge) × (over graph.points back ≡ other) × walks.IsUsable
-          (edges graph) numbered back → routes.Precedes request other (over graph.points walk) → ⊥
+          (edges graph) numbered back → IsPreferred penalty request other (over graph.points walk) → ⊥
       first {other} back before =
-          let left : key request.amount back.0 ≡ key_over request.amount other =
-          sym (keys_same graph.points request.amount back.0) ∙ ap (key_over request.amount) back.1 in
-          let right : key request.amount walk ≡ key_over request.amount (over graph.points walk) = sym (keys_same graph.points request.amount walk) in
-          least.first back.0 back.2 (ap (λ k. slice_cmp nat_cmp k (key request.amount walk)) left
-          ∙ ap (slice_cmp nat_cmp (key_over request.amount other)) right ∙ before)
+          let left : key numbered back.0 ≡ key_over penalty request.amount other =
+          sym (keys_same graph numbered penalty alike back.0) ∙ ap (key_over penalty request.amount) back.1 in
+          let right : key numbered walk ≡ key_over penalty request.amount (over graph.points walk) = sym (keys_same graph numbered penalty alike walk) in
+          least.first back.0 back.2 (ap (λ k. slice_cmp nat_cmp k (key numbered walk)) left
+          ∙ ap (slice_cmp nat_cmp (key_over penalty request.amount other)) right ∙ before)
 
 -- ---- ends without a number
 

@@ -1,10 +1,12 @@
 -- Rests of walks: their amounts, and which dominates which.
-use Rattle.std.proofs.Common.{◌≡◌, ◌⊎◌, ℕ, suc, ◌+◌, ◌^◌, ◌<◌, ◌≤◌, List, [], ◌∷◌, length, drop, zero, refl, ap, inl, inr, arith}
-use Rattle.std.proofs.Math.Nat.{mul-le-mul_right}
+use Rattle.std.proofs.Common.{◌≡◌, ◌⊎◌, ℕ, suc, ◌+◌, ◌-◌, ◌*◌, ◌/◌, ◌^◌, min, Option, Some, None, ◌<◌, ◌≤◌, List, [], ◌∷◌, length, drop, zero, refl, ap, inl, inr, arith}
+use Rattle.std.proofs.Math.Nat.{mul-le-mul_right, mul-le-mul_left, div-mul-le_self, min-le_left}
+use Rattle.std.proofs.lemmas.Nat.{le-div}
 use Rattle.lgm_graph.specs.Fee.{fee_of}
 use Rattle.lgm_graph.specs.declared.edge.Edge.{Edge}
-use Rattle.lgm_route.specs.declared.request.NumberedRequest.{NumberedRequest}
-use Rattle.lgm_route.specs.inner.Numbered.{owed, sent, ids, IsStep}
+use Rattle.lgm_route.specs.inner.Numbered.{Ask, Terms, Known, penalty_of, penalty_by, known_of}
+use Rattle.lgm_route.specs.Odds.{odds}
+use Rattle.lgm_route.specs.inner.Numbered.{owed, sent, penalties, weight, worth, ids, IsStep}
 use Rattle.lgm_route.specs.inner.Searching.{cost, NotAfter, rest_key, walk_key, Dominates, AreCarried}
 use Rattle.lgm_route.proofs.Orders.{NotAfter-refl, NotAfter-trans, NotAfter-split, NotAfter-join, NotAfter-heads}
 
@@ -12,6 +14,34 @@ use Rattle.lgm_route.proofs.Orders.{NotAfter-refl, NotAfter-trans, NotAfter-spli
 pub fee-monotone : (x y base millionths : ℕ) → x ≤ y → fee_of x base millionths ≤ fee_of y base millionths
 unfolding fee_of
 fee-monotone x y base millionths h = let grown = mul-le-mul_right millionths h in omega (arith, grown)
+
+min-le-min : (most x y : ℕ) → x ≤ y → min most x ≤ min most y
+min-le-min most x y h = grind (arith, h)
+
+-- a larger amount has no less odds
+odds-rises : (failure least most x y : ℕ) → x ≤ y → odds failure least most x ≤ odds failure least most y
+odds-rises failure least most x y h =
+    let over : failure * (x - least) ≤ failure * (y - least) = mul-le-mul_left failure (omega (arith, h)) in
+    let q = failure * (x - least) / (most - x + 1) in
+    let room : q * (most - y + 1) ≤ q * (most - x + 1) = mul-le-mul_left q (omega (arith, h)) in
+    let back : q * (most - x + 1) ≤ failure * (x - least) = div-mul-le_self (failure * (x - least)) (most - x + 1) in
+    let more : q ≤ failure * (y - least) / (most - y + 1) =
+    le-div q (failure * (y - least)) (most - y + 1) (omega arith) (omega (arith, room, back, over)) in
+    min-le-min (100 * failure) q (failure * (y - least) / (most - y + 1)) more
+
+penalty_by-rises : (terms : Terms) (known : Known) (edge : Edge) (x y : ℕ) → x ≤ y → penalty_by terms known edge x ≤ penalty_by terms known edge y
+penalty_by-rises terms known edge x y h =
+    let more = odds-rises terms.failure known.least edge.max x y h in
+    min-le-min (2 ^ 40) (terms.hop + known.flat + odds terms.failure known.least edge.max x)
+    (terms.hop + known.flat + odds terms.failure known.least edge.max y) (omega (arith, more))
+
+pub penalty-rises : (terms : Option Terms) (edge : Edge) (x y : ℕ) → x ≤ y → penalty_of terms edge x ≤ penalty_of terms edge y
+penalty-rises None edge x y h = omega arith
+penalty-rises (Some terms) edge x y h = penalty_by-rises terms (known_of terms.known edge) edge x y h
+
+pub penalty-light : (terms : Option Terms) (edge : Edge) (x : ℕ) → penalty_of terms edge x ≤ 2 ^ 40
+penalty-light None edge x = omega arith
+penalty-light (Some terms) edge x = min-le_left (2 ^ 40) (terms.hop + (known_of terms.known edge).flat + odds terms.failure (known_of terms.known edge).least edge.max x)
 
 pub trichotomy : (a b : ℕ) → (a < b) ⊎ (a ≡ b) ⊎ (b < a)
 trichotomy a b = grind arith
@@ -24,26 +54,40 @@ pub raised-le : (a b base millionths : ℕ) → a ≤ b → a + fee_of a base mi
 raised-le a b base millionths h = let grown = fee-monotone a b base millionths h in omega (arith, grown)
 
 -- lemma 3: a lesser amount can be carried wherever a greater one can
-pub step-cheaper : (edges : List Edge) (request : NumberedRequest) (node : ℕ) (edge : Edge) (rest other : List Edge) →
+pub step-cheaper : (edges : List Edge) (request : Ask) (node : ℕ) (edge : Edge) (rest other : List Edge) →
     owed request.amount rest ≤ owed request.amount other →
     IsStep edges request node edge other → IsStep edges request node edge rest
 step-cheaper edges request node edge rest other h step =
     record { there = step.there; leaves = step.leaves; above_min = step.above_min; below_max = omega (arith, step.below_max) }
 
-pub Dominates-refl : (request : NumberedRequest) (rest : List Edge) → Dominates request rest rest
-Dominates-refl request rest = record { fewer = omega arith; sooner = omega arith; before = NotAfter-refl (rest_key request rest) }
+pub Dominates-refl : (request : Ask) (rest : List Edge) → Dominates request rest rest
+Dominates-refl request rest = record { fewer = omega arith; sooner = omega arith; cheaper = omega arith; before = NotAfter-refl (rest_key request rest) }
 
-pub Dominates-trans : (request : NumberedRequest) (a b c : List Edge) → Dominates request a b → Dominates request b c → Dominates request a c
+pub Dominates-trans : (request : Ask) (a b c : List Edge) → Dominates request a b → Dominates request b c → Dominates request a c
 Dominates-trans request a b c h k =
     record {
       fewer = omega (arith, h.fewer, k.fewer);
       sooner = omega (arith, h.sooner, k.sooner);
+      cheaper = omega (arith, h.cheaper, k.cheaper);
       before =
           NotAfter-trans (rest_key request a) (rest_key request b) (rest_key request c) h.before k.before;
     }
 
-pub Dominates-owed : (request : NumberedRequest) (a b : List Edge) → Dominates request a b → owed request.amount a ≤ owed request.amount b
-Dominates-owed request a b h = NotAfter-heads (owed request.amount a) (owed request.amount b) (length a ∷ ids a) (length b ∷ ids b) h.before
+pub Dominates-owed : (request : Ask) (a b : List Edge) → Dominates request a b → owed request.amount a ≤ owed request.amount b
+Dominates-owed request a b h = h.cheaper
+
+pub Dominates-weight : (request : Ask) (a b : List Edge) → Dominates request a b → weight request a ≤ weight request b
+Dominates-weight request a b h = NotAfter-heads (weight request a) (weight request b) (length a ∷ ids a) (length b ∷ ids b) h.before
+
+-- a lesser amount is charged no more, and has no greater penalty
+weight_grows : (request : Ask) (edge : Edge) (a b : List Edge) → owed request.amount a ≤ owed request.amount b
+    → weight request (edge ∷ a) + weight request b ≤ weight request (edge ∷ b) + weight request a
+weight_grows request edge a b h =
+    omega (
+      arith,
+      fee-monotone (owed request.amount a) (owed request.amount b) edge.base edge.millionths h,
+      penalty-rises request.terms edge (owed request.amount a) (owed request.amount b) h,
+    )
 
 -- lemma 2: an edge in front of two rests preserves their order
 abbrev Tails : List Edge → List Edge → Type 0
@@ -57,52 +101,66 @@ tails_prepend edge a b h = by (NotAfter-split (length a) (length b) (ids a) (ids
     by (inr p) = NotAfter-join (suc (length a)) (suc (length b)) (ids (edge ∷ a)) (ids (edge ∷ b))
         (inr (ap suc p.0, NotAfter-join edge.scid edge.scid (ids a) (ids b) (inr (refl, p.1))))
 
-pub Dominates-prepend : (request : NumberedRequest) (edge : Edge) (a b : List Edge) → Dominates request a b → Dominates request (edge ∷ a) (edge ∷ b)
+pub Dominates-prepend : (request : Ask) (edge : Edge) (a b : List Edge) → Dominates request a b → Dominates request (edge ∷ a) (edge ∷ b)
 Dominates-prepend request edge a b h =
-    record { fewer = omega (arith, h.fewer); sooner = omega (arith, h.sooner); before = by (NotAfter-split x y (length a ∷ ids a) (length b ∷ ids b) h.before) }
+    record {
+      fewer = omega (arith, h.fewer);
+      sooner = omega (arith, h.sooner);
+      cheaper = raised-le (owed request.amount a) (owed request.amount b) edge.base edge.millionths h.cheaper;
+      before = by (NotAfter-split x y (length a ∷ ids a) (length b ∷ ids b) h.before) (trichotomy (weight request (edge ∷ a)) (weight request (edge ∷ b)));
+    }
   where
     x : ℕ
-    x = owed request.amount a
+    x = weight request a
 
     y : ℕ
-    y = owed request.amount b
+    y = weight request b
 
-    by : (x < y) ⊎ ((x ≡ y) × Tails a b) → NotAfter (rest_key request (edge ∷ a)) (rest_key request (edge ∷ b))
-    by (inl p) =
-        NotAfter-join (owed request.amount (edge ∷ a)) (owed request.amount (edge ∷ b))
+    grows : weight request (edge ∷ a) + weight request b ≤ weight request (edge ∷ b) + weight request a
+    grows = weight_grows request edge a b h.cheaper
+
+    Order : Type 0
+    Order = (weight request (edge ∷ a) < weight request (edge ∷ b)) ⊎ (weight request (edge ∷ a) ≡ weight request (edge ∷ b))
+        ⊎ (weight request (edge ∷ b) < weight request (edge ∷ a))
+
+    by : (x < y) ⊎ ((x ≡ y) × Tails a b) → Order → NotAfter (rest_key request (edge ∷ a)) (rest_key request (edge ∷ b))
+    by s (inl q) =
+        NotAfter-join (weight request (edge ∷ a)) (weight request (edge ∷ b))
+        (length (edge ∷ a) ∷ ids (edge ∷ a)) (length (edge ∷ b) ∷ ids (edge ∷ b)) (inl q)
+    by (inl p) (inr (inl q)) = absurd (omega (arith, grows))
+    by (inr p) (inr (inl q)) =
+        NotAfter-join (weight request (edge ∷ a)) (weight request (edge ∷ b))
         (length (edge ∷ a) ∷ ids (edge ∷ a)) (length (edge ∷ b) ∷ ids (edge ∷ b))
-        (inl (raised-lt x y edge.base edge.millionths p))
-    by (inr p) =
-        NotAfter-join (owed request.amount (edge ∷ a)) (owed request.amount (edge ∷ b))
-        (length (edge ∷ a) ∷ ids (edge ∷ a)) (length (edge ∷ b) ∷ ids (edge ∷ b))
-        (inr (ap (λ z. z + fee_of z edge.base edge.millionths) p.0, tails_prepend edge a b p.1))
+        (inr (q, tails_prepend edge a b p.1))
+    by (inl p) (inr (inr q)) = absurd (omega (arith, grows))
+    by (inr p) (inr (inr q)) = absurd (omega (arith, grows, p.0))
 
 -- and as whole walks, where the first edge charges nothing
-pub Dominates-walk : (request : NumberedRequest) (edge : Edge) (a b : List Edge) → Dominates request a b
+pub Dominates-walk : (request : Ask) (edge : Edge) (a b : List Edge) → Dominates request a b
     → NotAfter (walk_key request (edge ∷ a)) (walk_key request (edge ∷ b))
 Dominates-walk request edge a b h = by (NotAfter-split x y (length a ∷ ids a) (length b ∷ ids b) h.before)
   where
     x : ℕ
-    x = owed request.amount a
+    x = weight request a
 
     y : ℕ
-    y = owed request.amount b
+    y = weight request b
 
     by : (x < y) ⊎ ((x ≡ y) × Tails a b) → NotAfter (walk_key request (edge ∷ a)) (walk_key request (edge ∷ b))
     by (inl p) = NotAfter-join x y (length (edge ∷ a) ∷ ids (edge ∷ a)) (length (edge ∷ b) ∷ ids (edge ∷ b)) (inl p)
     by (inr p) = NotAfter-join x y (length (edge ∷ a) ∷ ids (edge ∷ a)) (length (edge ∷ b) ∷ ids (edge ∷ b)) (inr (p.0, tails_prepend edge a b p.1))
 
 -- what is sent, and then the number of edges, in one number
-pub walk_less : (request : NumberedRequest) (walk other : List Edge) → length walk ≤ 20 → length other ≤ 20 →
-    cost (sent request.amount walk) (length walk) < cost (sent request.amount other) (length other) →
+pub walk_less : (request : Ask) (walk other : List Edge) → length walk ≤ 20 → length other ≤ 20 →
+    cost (worth request walk) (length walk) < cost (worth request other) (length other) →
     NotAfter (walk_key request walk) (walk_key request other)
-walk_less request walk other few also p = by (trichotomy (sent request.amount walk) (sent request.amount other))
+walk_less request walk other few also p = by (trichotomy (worth request walk) (worth request other))
   where
-    by : (sent request.amount walk < sent request.amount other) ⊎ (sent request.amount walk
-        ≡ sent request.amount other) ⊎ (sent request.amount other < sent request.amount walk) →
+    by : (worth request walk < worth request other) ⊎ (worth request walk
+        ≡ worth request other) ⊎ (worth request other < worth request walk) →
         NotAfter (walk_key request walk) (walk_key request other)
-    by (inl r) = NotAfter-join (sent request.amount walk) (sent request.amount other) (length walk ∷ ids walk) (length other ∷ ids other) (inl r)
-    by (inr (inl r)) = NotAfter-join (sent request.amount walk) (sent request.amount other) (length walk ∷ ids walk) (length other ∷ ids other)
+    by (inl r) = NotAfter-join (worth request walk) (worth request other) (length walk ∷ ids walk) (length other ∷ ids other) (inl r)
+    by (inr (inl r)) = NotAfter-join (worth request walk) (worth request other) (length walk ∷ ids walk) (length other ∷ ids other)
         (inr (r, NotAfter-join (length walk) (length other) (ids walk) (ids other) (inl (omega arith))))
     by (inr (inr r)) = absurd (omega arith)
 
@@ -110,6 +168,17 @@ walk_less request walk other few also p = by (trichotomy (sent request.amount wa
 pub owed-least : (amount : ℕ) (rest : List Edge) → amount ≤ owed amount rest
 owed-least amount [] = omega arith
 owed-least amount (edge ∷ rest) = omega (arith, owed-least amount rest)
+
+-- without terms there are none
+pub no_spent : (amount : ℕ) (rest : List Edge) → penalties None amount rest ≡ 0
+no_spent amount [] = refl
+no_spent amount (edge ∷ rest) = omega (arith, no_spent amount rest)
+
+-- each edge adds at most 2^40
+pub penalties_light : (request : Ask) (rest : List Edge) → penalties request.terms request.amount rest ≤ length rest * 2 ^ 40
+penalties_light request [] = omega arith
+penalties_light request (edge ∷ rest) =
+    omega (arith, penalties_light request rest, penalty-light request.terms edge (owed request.amount rest))
 
 sent_below : (amount : ℕ) (walk : List Edge) → sent amount walk ≤ owed amount walk
 sent_below amount [] = omega arith

@@ -3,12 +3,12 @@ use Rattle.std.proofs.Common.{◌≡◌, ◌⊎◌, ℕ, zero, suc, ◌+◌, ◌
 use Rattle.std.proofs.Common.{Option, Some, None, Bool, true, false, refl, sym, ◌∙◌, ap, subst, inl, inr, arith}
 use Rattle.lgm_graph.specs.Graph.{Graph, edges, edges_into, AreListed}
 use Rattle.lgm_graph.specs.declared.edge.Edge.{Edge}
-use Rattle.lgm_route.specs.declared.request.NumberedRequest.{NumberedRequest}
+use Rattle.lgm_route.specs.inner.Numbered.{Ask}
 use Rattle.lgm_route.specs.declared.label.Label.{Label}
 use Rattle.lgm_route.specs.inner.Bounding.{AreLow}
 use Rattle.lgm_route.specs.inner.Numbered.{sent, IsLeast}
 use Rattle.lgm_route.specs.inner.Searching.{Low, cost, label_at, edge_at, Spells, first_of, bound_of, number_at, IsSettled, AreLabels, IsFound}
-use Rattle.lgm_route.specs.inner.Searching.{Grows, IsOffered, IsBetter, RelaxesOn, AreSpelled, SomeRest, IsNoBetter, IsDominatorOf}
+use Rattle.lgm_route.specs.inner.Searching.{Grows, IsOffered, IsBetter, RelaxesOn, AreSpelled, SomeRest, IsNoBetter, IsDominatorOf, IsUpperBound}
 use Rattle.lgm_route.specs.inner.Relaxations.{IsRelaxationOf, AreRelaxations}
 use Rattle.lgm_route.specs.inner.SearchState.{Ground, SearchState, state_of, IsGround, IsSearch, Extends, IsSettledAt, IsMarkedAt}
 use Rattle.lgm_route.specs.inner.SearchState.{AreRelaxationsAt, IsRelaxedOn, IsLeftAt, IsFinished, bound_in}
@@ -31,6 +31,13 @@ extends-trans a b c h k = record {
   grows = grows-trans a.ground.graph a.ground.request a.ground.upper_bound a.labels b.labels c.labels a.best b.best c.best h.grows
       (subst (λ g. Growing g b c) h.ground k.grows);
   still = λ i m. k.still i (h.still i m);
+}
+
+pub extends-refl : (a : SearchState) → Extends a a
+extends-refl a = record {
+  ground = refl;
+  grows = grows-refl a.ground.graph a.ground.request a.ground.upper_bound a.labels a.best;
+  still = λ i m. m;
 }
 
 abbrev Relaxing : Ground → List Label → ℕ → SearchState → Edge → Type 0
@@ -137,7 +144,7 @@ settled_led a b i is h within left =
 
 -- so is a pruned one
 pub settled_vain : (s : SearchState) (i : ℕ) → IsSearch s → i < length s.labels →
-    bound_in s ≤ cost ((label_at s.labels i).amount + number_at s.ground.low.fees (label_at s.labels i).node) (label_at s.labels i).hops → IsSettledAt s i
+    bound_in s ≤ cost ((label_at s.labels i).amount + (label_at s.labels i).penalty + number_at s.ground.low.fees (label_at s.labels i).node) (label_at s.labels i).hops → IsSettledAt s i
 settled_vain s i is within h =
     settled_hopeless s.ground.graph s.ground.request s.ground.low s.ground.upper_bound s.labels s.best (label_at s.labels i) (is.labelled.sound i within) h
 
@@ -166,7 +173,7 @@ marked_more a b i h before here j to = by (trichotomy j i)
 pub finished : (s : SearchState) → IsSearch s → ((i : ℕ) → i < length s.labels → IsMarkedAt s i) → IsFinished s
 finished s is all =
     none_better s.ground.graph s.ground.request s.ground.low s.ground.upper_bound s.labels s.best is.labelled
-    is.ground.low (λ i within. (is.settled i (all i within)).1) is.found
+    is.ground.low (λ i within. (is.settled i (all i within)).1) is.ground.upper_bound is.found
 
 -- the best walk is the least
 pub walk_least : (s : SearchState) (best : Label) (walk : List Edge) → s.best ≡ Some best → IsSearch s → IsFinished s →
@@ -177,18 +184,19 @@ walk_least s best walk some is finished spelled =
       least_of s.ground.graph s.ground.request s.labels s.ground.upper_bound best walk
           (λ other usable. subst (λ o. IsNoBetter s.ground.graph s.ground.request s.labels s.ground.upper_bound o
           other) some (finished other usable)) found spelled.0 spelled.1,
-      sent_small s.ground.graph s.ground.request s.labels s.ground.upper_bound best walk is.ground.small found spelled.0 spelled.1,
+      sent_small s.ground.graph s.ground.request s.labels s.ground.upper_bound best walk is.ground.upper_bound found spelled.0 spelled.1,
     )
 
 -- a new search
-pub begun : (graph : Graph) (request : NumberedRequest) (low : Low) (upper_bound : ℕ) → AreListed graph
-    → length low.fees ≡ length graph.points → AreLow (edges graph) request low → upper_bound ≤ 2 ^ 64 →
+pub begun : (graph : Graph) (request : Ask) (low : Low) (upper_bound : ℕ) → AreListed graph
+    → length low.fees ≡ length graph.points → AreLow (edges graph) request low → upper_bound ≤ 2 ^ 65 →
+    IsUpperBound (edges graph) request upper_bound →
     (labels : List Label)
-    → labels ≡ record { amount = request.amount; parent = 0; at = 0; node = request.payee; hops = 0; delay = 0 } ∷ []
+    → labels ≡ record { amount = request.amount; penalty = 0; parent = 0; at = 0; node = request.payee; hops = 0; delay = 0 } ∷ []
     → (done : List Bool) → done ≡ [] →
     IsSearch (state_of graph request low upper_bound labels None done)
-begun graph request low upper_bound listed long are_low small labels one done none = record {
-  ground = record { listed = listed; long = long; low = are_low; small = small };
+begun graph request low upper_bound listed long are_low small upper labels one done none = record {
+  ground = record { listed = listed; long = long; low = are_low; small = small; upper_bound = upper };
   labelled = rw one first;
   found = tt;
   settled = rw none (λ i h. absurd (no i h));
@@ -198,10 +206,10 @@ begun graph request low upper_bound listed long are_low small labels one done no
     no i h = cc
 
     label : Label
-    label = record { amount = request.amount; parent = 0; at = 0; node = request.payee; hops = 0; delay = 0 }
+    label = record { amount = request.amount; penalty = 0; parent = 0; at = 0; node = request.payee; hops = 0; delay = 0 }
 
     sound : (i : ℕ) → i < length (label ∷ []) → SomeRest graph request (label ∷ []) (label_at (label ∷ []) i)
-    sound zero within = ([], record { spells = tt; long = refl; joins = refl; owes = refl; waits = refl; in_time = omega arith })
+    sound zero within = ([], record { spells = tt; long = refl; joins = refl; owes = refl; spends = refl; waits = refl; in_time = omega arith })
     sound (suc i) within = absurd (omega arith)
 
     few : (i : ℕ) → i < length (label ∷ []) → (label_at (label ∷ []) i).hops ≤ 19

@@ -8,9 +8,9 @@ use Rattle.std.proofs.lemmas.List.{get_or_push, length_push, get_or_default, app
 use Rattle.lgm_graph.specs.Fee.{fee_of}
 use Rattle.lgm_graph.specs.Graph.{Graph, edges, edges_into, AreListed}
 use Rattle.lgm_graph.specs.declared.edge.Edge.{Edge}
-use Rattle.lgm_route.specs.declared.request.NumberedRequest.{NumberedRequest}
+use Rattle.lgm_route.specs.inner.Numbered.{Ask, penalty_of}
 use Rattle.lgm_route.specs.declared.label.Label.{Label}
-use Rattle.lgm_route.specs.inner.Numbered.{sent, ids, counted, most_delay}
+use Rattle.lgm_route.specs.inner.Numbered.{worth, ids, counted, most_delay}
 use Rattle.lgm_route.specs.inner.Searching.{Low, cost, NotAfter, walk_key, Dominates, no_edge, edge_at, label_at, no_label, number_at}
 use Rattle.lgm_route.specs.inner.Searching.{IdsFirst, IsLabel, IsWalk, DoesDominate, SomeRest, SomeWalk, bound_of, IsHopeless}
 use Rattle.lgm_route.specs.inner.Searching.{IsRelaxed, IsLeft, IsSettled, AreLabels, IsFound, Grows, IsBetter, IsOffered, RelaxesOn}
@@ -23,29 +23,29 @@ use Rattle.lgm_route.proofs.Labels.{label-later, at-later, long-later, passed-la
 
 abbrev pub IsBefore : Graph → List Label → Label → Label → Type 0
 IsBefore graph labels x y =
-    (x.amount < y.amount) ⊎ ((x.amount ≡ y.amount) × (x.hops < y.hops))
-    ⊎ ((x.amount ≡ y.amount) × (x.hops ≡ y.hops) × IdsFirst graph labels x y)
+    (x.amount + x.penalty < y.amount + y.penalty) ⊎ ((x.amount + x.penalty ≡ y.amount + y.penalty) × (x.hops < y.hops))
+    ⊎ ((x.amount + x.penalty ≡ y.amount + y.penalty) × (x.hops ≡ y.hops) × IdsFirst graph labels x y)
 
-pub before_walk : (graph : Graph) (request : NumberedRequest) (labels : List Label) (x y : Label)
+pub before_walk : (graph : Graph) (request : Ask) (labels : List Label) (x y : Label)
     (walk other : List Edge) → IsWalk graph request labels x walk → IsWalk graph request labels y other →
     IsBefore graph labels x y → NotAfter (walk_key request walk) (walk_key request other)
 before_walk graph request labels x y walk other h k (inl p) =
-    NotAfter-join (sent request.amount walk) (sent request.amount other) (length walk ∷ ids walk)
-    (length other ∷ ids other) (inl (omega (arith, h.sends, k.sends)))
+    NotAfter-join (worth request walk) (worth request other) (length walk ∷ ids walk)
+    (length other ∷ ids other) (inl (omega (arith, h.costs, k.costs)))
 before_walk graph request labels x y walk other h k (inr (inl p)) =
-    NotAfter-join (sent request.amount walk) (sent request.amount other) (length walk ∷ ids walk) (length other ∷ ids other)
-    (inr (h.sends ∙ p.0 ∙ sym k.sends, NotAfter-join (length walk) (length other) (ids walk) (ids other) (inl (omega (arith, p.1, h.long, k.long)))))
+    NotAfter-join (worth request walk) (worth request other) (length walk ∷ ids walk) (length other ∷ ids other)
+    (inr (h.costs ∙ p.0 ∙ sym k.costs, NotAfter-join (length walk) (length other) (ids walk) (ids other) (inl (omega (arith, p.1, h.long, k.long)))))
 before_walk graph request labels x y walk other h k (inr (inr p)) =
-    NotAfter-join (sent request.amount walk) (sent request.amount other) (length walk ∷ ids walk) (length other ∷ ids other)
+    NotAfter-join (worth request walk) (worth request other) (length walk ∷ ids walk) (length other ∷ ids other)
     (inr (
-      h.sends ∙ p.0 ∙ sym k.sends,
+      h.costs ∙ p.0 ∙ sym k.costs,
       NotAfter-join (length walk) (length other) (ids walk) (ids other)
           (inr (h.long ∙ p.1 ∙ sym k.long, p.2 walk other h.spells k.spells h.long k.long)),
     ))
 
 -- the better of two walks
-module _ (graph : Graph) (request : NumberedRequest) (labels : List Label) (upper_bound : ℕ) where
-  pub better_first : (new : Label) → SomeWalk graph request labels new → new.amount < upper_bound → IsBetter graph request labels upper_bound None new (Some new)
+module _ (graph : Graph) (request : Ask) (labels : List Label) (upper_bound : ℕ) where
+  pub better_first : (new : Label) → SomeWalk graph request labels new → new.amount + new.penalty < upper_bound → IsBetter graph request labels upper_bound None new (Some new)
   better_first new some low =
       record {
         found_is = (some, low);
@@ -55,8 +55,8 @@ module _ (graph : Graph) (request : NumberedRequest) (labels : List Label) (uppe
             λ walk h. (
               some.0,
               some.1,
-              NotAfter-join (sent request.amount some.0) (sent request.amount walk)
-                  (length some.0 ∷ ids some.0) (length walk ∷ ids walk) (inl (omega (arith, some.1.sends))),
+              NotAfter-join (worth request some.0) (worth request walk)
+                  (length some.0 ∷ ids some.0) (length walk ∷ ids walk) (inl (omega (arith, some.1.costs))),
             );
         takes = λ walk is. (walk, is, NotAfter-refl (walk_key request walk));
       }
@@ -79,12 +79,12 @@ module _ (graph : Graph) (request : NumberedRequest) (labels : List Label) (uppe
         takes = λ walk is. (walk, is, NotAfter-refl (walk_key request walk));
       }
     where
-      low : IsBefore graph labels new best → new.amount < upper_bound
+      low : IsBefore graph labels new best → new.amount + new.penalty < upper_bound
       low (inl p) = omega (arith, found.1)
       low (inr (inl p)) = omega (arith, found.1, p.0)
       low (inr (inr p)) = omega (arith, found.1, p.0)
 
-      lower : IsBefore graph labels new best → cost new.amount new.hops ≤ cost best.amount best.hops
+      lower : IsBefore graph labels new best → cost (new.amount + new.penalty) new.hops ≤ cost (best.amount + best.penalty) best.hops
       lower (inl p) = omega (arith, some.1.few)
       lower (inr (inl p)) = omega (arith, p.0, p.1)
       lower (inr (inr p)) = omega (arith, p.0, p.1)
@@ -100,20 +100,20 @@ module _ (graph : Graph) (request : NumberedRequest) (labels : List Label) (uppe
         takes = λ walk is. ((found.0).0, (found.0).1, before_walk graph request labels best new (found.0).0 walk (found.0).1 is before);
       }
     where
-      below : IsBefore graph labels best new → cost best.amount best.hops ≤ cost new.amount new.hops
+      below : IsBefore graph labels best new → cost (best.amount + best.penalty) best.hops ≤ cost (new.amount + new.penalty) new.hops
       below (inl p) = omega (arith, (found.0).1.few)
       below (inr (inl p)) = omega (arith, p.0, p.1)
       below (inr (inr p)) = omega (arith, p.0, p.1)
 
   -- no walk was found yet, and this one isn't below the upper bound
-  pub better_none : (new : Label) → upper_bound ≤ new.amount → IsBetter graph request labels upper_bound None new None
+  pub better_none : (new : Label) → upper_bound ≤ new.amount + new.penalty → IsBetter graph request labels upper_bound None new None
   better_none new high =
       record {
         found_is = tt;
         lower = omega arith;
         below = omega arith;
         keeps = λ walk h. h;
-        takes = λ walk is. omega (arith, is.sends);
+        takes = λ walk is. omega (arith, is.costs);
       }
 
   pub better_choice : (best : Option Label) (new : Label) (b : Bool) → (b ≡ true → IsBetter graph request labels upper_bound best new (Some new)) →
@@ -132,7 +132,7 @@ module _ (graph : Graph) (request : NumberedRequest) (labels : List Label) (uppe
       (better_choice (Some old) new b (λ e. better_takes old new stored some (before e)) (λ e. better_keeps old new stored (after e)))
 
 -- a dominating label is there
-pub offered_there : (graph : Graph) (request : NumberedRequest) (labels : List Label) (new : Label)
+pub offered_there : (graph : Graph) (request : Ask) (labels : List Label) (new : Label)
     (place : ℕ) → AreLabels graph request labels → place < length labels →
     (label_at labels place).node ≡ new.node → DoesDominate graph labels (label_at labels place) new → IsOffered graph request labels new labels
 offered_there graph request labels new place are within at dominates =
@@ -154,7 +154,7 @@ label_new : (labels : List Label) (new : Label) (i : ℕ) → length labels ≡ 
 label_new labels new i long = get_or_push labels new no_label i long
 
 -- or it is added
-pub offered_new : (graph : Graph) (request : NumberedRequest) (labels : List Label) (new : Label) → AreLabels graph request labels →
+pub offered_new : (graph : Graph) (request : Ask) (labels : List Label) (new : Label) → AreLabels graph request labels →
     SomeRest graph request labels new → new.hops ≤ 19 → IsOffered graph request labels new (labels ++ new ∷ [])
 offered_new graph request labels new are some few =
     record {
@@ -206,7 +206,7 @@ offered_new graph request labels new are some few =
     low i (inr (inr p)) within = absurd (omega (arith, all))
 
 -- relaxing over an edge, seen from an earlier state, or in a later one
-pub passes_from : (graph : Graph) (request : NumberedRequest) (low : Low) (upper_bound i : ℕ)
+pub passes_from : (graph : Graph) (request : Ask) (low : Low) (upper_bound i : ℕ)
     (labels : List Label) (found : Option Label) (after : List Label) (now : Option Label) (last : List Label)
     (best : Option Label) (edge : Edge) →
     Grows graph request upper_bound labels found after now → i < length labels → RelaxesOn graph request low upper_bound
@@ -217,7 +217,7 @@ passes_from graph request low upper_bound i labels found after now last best edg
     (label-later graph request low upper_bound labels found after now grows (label_at labels i) rest is))
     (to ∙ ap (λ l. l.node) (sym same)) min max
 
-pub passes_later : (graph : Graph) (request : NumberedRequest) (low : Low) (upper_bound i : ℕ)
+pub passes_later : (graph : Graph) (request : Ask) (low : Low) (upper_bound i : ℕ)
     (labels : List Label) (after : List Label) (now : Option Label) (last : List Label) (best : Option Label)
     (edge : Edge) →
     Grows graph request upper_bound after now last best → RelaxesOn graph request low upper_bound labels i after now edge
@@ -242,13 +242,14 @@ into_node graph labels i at edge listed into =
     record { there = found.1; to = found.0; from = (listed.each edge found.1).from }
 
 -- a label, relaxed over an edge into its node that can carry it
-pub led : (graph : Graph) (request : NumberedRequest) (labels : List Label) (i at owed delay : ℕ) (label : Label) (edge : Edge)
+pub led : (graph : Graph) (request : Ask) (labels : List Label) (i at owed spent delay : ℕ) (label : Label) (edge : Edge)
     → AreListed graph → IsInto graph labels i at edge → label ≡ label_at labels i → edge.min ≤ request.amount → label.amount ≤ edge.max
-    → (edge.from ≡ request.payer → owed ≡ label.amount)
+    → (edge.from ≡ request.payer → (owed ≡ label.amount) × (spent ≡ label.penalty))
     → (edge.from ≢ request.payer → (label.hops < 19) × (owed ≡ label.amount + fee_of label.amount edge.base edge.millionths)
+    × (spent ≡ label.penalty + penalty_of request.terms edge label.amount)
     × (delay ≡ label.delay + counted request.limit edge) × (delay ≤ most_delay request.limit))
-    → IsRelaxationOf graph request labels i edge (record { amount = owed; parent = i; at = at; node = edge.from; hops = label.hops + 1; delay = delay })
-led graph request labels i at owed delay label edge listed into is min max whole longer =
+    → IsRelaxationOf graph request labels i edge (record { amount = owed; penalty = spent; parent = i; at = at; node = edge.from; hops = label.hops + 1; delay = delay })
+led graph request labels i at owed spent delay label edge listed into is min max whole longer =
     let e = into_node graph labels i at edge listed into in
     let same = ap (λ (l : Label). l.amount) is in
     record {
@@ -262,12 +263,12 @@ led graph request labels i at owed delay label edge listed into is min max whole
       parent = refl;
       node = refl;
       hops = ap (λ (l : Label). l.hops + 1) is;
-      whole = λ from. whole from ∙ same;
-      longer = λ other. (omega (arith, (longer other).0), (longer other).1 ∙ ap (λ (l : Label). l.amount + fee_of l.amount edge.base edge.millionths) is, (longer other).2 ∙ ap (λ (l : Label). l.delay + counted request.limit edge) is, (longer other).3);
+      whole = λ from. ((whole from).0 ∙ same, (whole from).1 ∙ ap (λ (l : Label). l.penalty) is);
+      longer = λ other. (omega (arith, (longer other).0), (longer other).1 ∙ ap (λ (l : Label). l.amount + fee_of l.amount edge.base edge.millionths) is, (longer other).2 ∙ ap (λ (l : Label). l.penalty + penalty_of request.terms edge l.amount) is, (longer other).3 ∙ ap (λ (l : Label). l.delay + counted request.limit edge) is, (longer other).4);
     }
 
 -- each edge into the label's node is in the run of edges into it
-pub all_passed : (graph : Graph) (request : NumberedRequest) (low : Low) (upper_bound i : ℕ)
+pub all_passed : (graph : Graph) (request : Ask) (low : Low) (upper_bound i : ℕ)
     (labels after : List Label) (now : Option Label) → AreListed graph →
     ((j : ℕ) → j < length (edges_into graph (label_at labels i).node) → RelaxesOn graph request low upper_bound
     labels i after now (edge_at (edges_into graph (label_at labels i).node) j)) →
@@ -280,7 +281,7 @@ all_passed graph request low upper_bound i labels after now listed passes rest i
     (passes place.0 place.1 rest is (ap (λ e. e.to) same ∙ to) (omega (arith, ap (λ e. e.min) same, min)) (omega (arith, ap (λ e. e.max) same, max)))
 
 -- a label is settled if one that dominates it is
-pub settled_serves : (graph : Graph) (request : NumberedRequest) (low : Low) (upper_bound : ℕ)
+pub settled_serves : (graph : Graph) (request : Ask) (low : Low) (upper_bound : ℕ)
     (labels : List Label) (found : Option Label) (x y : Label) (rest : List Edge) →
     x.node ≡ y.node → ((a b : List Edge) → IsLabel graph request labels x a → IsLabel graph request labels y b
     → Dominates request a b) → IsLabel graph request labels y rest
@@ -309,11 +310,11 @@ pub serves_itself : (graph : Graph) (labels : List Label) (label : Label) → Do
 serves_itself graph labels label request rest also is also_is =
     subst (λ r. Dominates request rest r) (label-unique graph request labels label rest also is also_is) (Dominates-refl request rest)
 
-pub spelled_labels : (graph : Graph) (request : NumberedRequest) (labels : List Label) → AreLabels graph request labels → AreSpelled graph labels
+pub spelled_labels : (graph : Graph) (request : Ask) (labels : List Label) → AreLabels graph request labels → AreSpelled graph labels
 spelled_labels graph request labels labelled i within = let s = labelled.sound i within in (s.0, s.1.spells, s.1.long)
 
 -- marked labels are settled, and one more
-module _ (graph : Graph) (request : NumberedRequest) (low : Low) (upper_bound : ℕ) where
+module _ (graph : Graph) (request : Ask) (low : Low) (upper_bound : ℕ) where
   pub still_settled : (labels : List Label) (found : Option Label) (after : List Label) (now : Option Label) (done : List Bool) →
       Grows graph request upper_bound labels found after now → AreSettled graph request low upper_bound labels found done
       → AreSettled graph request low upper_bound after now done
@@ -337,8 +338,8 @@ module _ (graph : Graph) (request : NumberedRequest) (low : Low) (upper_bound : 
       })
 
   pub settled_hopeless : (labels : List Label) (found : Option Label) (label : Label) → SomeRest graph request labels label →
-      bound_of upper_bound found ≤ cost (label.amount + number_at low.fees label.node) label.hops → IsSettled graph request low upper_bound labels found label
-  settled_hopeless labels found label some h = record { rest = some.0; is = some.1; done = inl (omega (arith, h, some.1.owes, some.1.long)) }
+      bound_of upper_bound found ≤ cost (label.amount + label.penalty + number_at low.fees label.node) label.hops → IsSettled graph request low upper_bound labels found label
+  settled_hopeless labels found label some h = record { rest = some.0; is = some.1; done = inl (inl (omega (arith, h, some.1.owes, some.1.spends, some.1.long))) }
 
   -- a label that another one dominates
   pub settled_for : (labels : List Label) (found : Option Label) (after : List Label) (now : Option Label) (i place : ℕ) →

@@ -3,4 +3,6 @@ pub mod Answers
 pub mod Choice
 pub mod Words
 pub mod Within
+pub mod Preferred
+pub mod Odds
 pub mod inner

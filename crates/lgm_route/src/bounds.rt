@@ -4,8 +4,10 @@ ghost use Rattle.std.specs.Prelude.{◌≡◌, [], length, IfOk};
 ghost use Rattle.lgm_route.specs.inner.Searching.{number_at};
 ghost use Rattle.lgm_route.specs.inner.Bounding.{bounds_in, AreLow, AreLowBy};
 ghost use Rattle.lgm_graph.specs.Graph.{edges};
+ghost use Rattle.lgm_route.specs.inner.Numbered.{asked};
 
 use crate::forward_search::ForwardSearch;
+use crate::penalties::Penalties;
 use crate::request::NumberedRequest;
 use lgm_gossip::Scid;
 use lgm_graph::RoutingGraph;
@@ -15,7 +17,7 @@ use std::marker::Model;
 /// What a forward search adds up.
 #[derive(Clone, Copy)]
 pub(crate) enum Measure {
-    /// The fees for the request's amount, in msat.
+    /// The fees and the penalties for the request's amount, in msat.
     Fees,
     /// The delays that count, in blocks.
     Delays,
@@ -121,14 +123,14 @@ fn steps_for(nodes: usize) -> usize {
 }
 
 /// Lower bounds on a measure from the payer to each node of a graph.
-fn bounds_by<V: RoutingGraph>(
+fn bounds_by<V: RoutingGraph, P: Penalties>(
     alloc: Global,
     view: &V,
-    request: &NumberedRequest,
+    request: &NumberedRequest<P>,
     measure: Measure,
 ) -> Result<Bounds, AllocError>
     ensures long { IfOk result (λ low. length low ≡ length (V.graph view.now).points) }
-    ensures low { IfOk result (λ low. AreLowBy measure (edges (V.graph view.now)) request.now low) }
+    ensures low { IfOk result (λ low. AreLowBy measure (edges (V.graph view.now)) (asked (P.terms request.now.penalties) request.now) low) }
 {
     let mut pass = ForwardSearch::new(alloc, view, request, measure)?;
     pass.expand(steps_for(view.nodes()))?;
@@ -136,13 +138,13 @@ fn bounds_by<V: RoutingGraph>(
 }
 
 /// Lower bounds on the fees from the payer to each node of a graph, and on the delays if the request has a limit.
-pub(crate) fn lower_bounds<V: RoutingGraph>(
+pub(crate) fn lower_bounds<V: RoutingGraph, P: Penalties>(
     alloc: Global,
     view: &V,
-    request: &NumberedRequest,
+    request: &NumberedRequest<P>,
 ) -> Result<LowerBounds, AllocError>
     ensures long { IfOk result (λ low. length low.fees ≡ length (V.graph view.now).points) }
-    ensures low { IfOk result (λ low. AreLow (edges (V.graph view.now)) request.now low) }
+    ensures low { IfOk result (λ low. AreLow (edges (V.graph view.now)) (asked (P.terms request.now.penalties) request.now) low) }
 {
     let fees = bounds_by(alloc, view, request, Measure::Fees)?;
     let delays = match request.limit {

@@ -2,12 +2,14 @@
 
 ghost use Rattle.std.specs.Prelude.{◌≡◌, ◌^◌, ◌-◌, ◌<◌, ◌≤◌, ◌⊎◌, ℕ, length, IfOk, false, ◌++◌, ◌∷◌, [], OnOk, OnErr};
 ghost use Rattle.lgm_graph.specs.Graph.{edges, edges_leaving};
+ghost use Rattle.lgm_route.specs.inner.Numbered.{asked};
 ghost use Rattle.lgm_route.specs.inner.Searching.{number_at};
 ghost use Rattle.lgm_route.specs.inner.Bounding.{AreLowBy, charged, IsLowered, IsLooked, IsRadius, is_closed};
 ghost use Rattle.lgm_route.specs.inner.ForwardState.{IsForwardState, IsSameForwardState, AreNear};
 
 use crate::bounds::{Bounds, Measure};
 use crate::entry::Entry;
+use crate::penalties::Penalties;
 use crate::request::NumberedRequest;
 use lgm_gossip::Scid;
 use lgm_graph::{Edge, RoutingGraph, fee};
@@ -23,9 +25,9 @@ const EDGES: usize = 40;
 ///
 /// A node is closed once the edges out of it were relaxed, and opened again when the fees to it fall.
 #[derive(Drop)]
-pub(crate) struct ForwardSearch<'a, V: RoutingGraph> {
+pub(crate) struct ForwardSearch<'a, V: RoutingGraph, P: Penalties> {
     view: &'a V,
-    request: &'a NumberedRequest,
+    request: &'a NumberedRequest<P>,
     measure: Measure,
     /// The fees to each node, or 2^64 - 1 if the search hasn't reached it.
     dist: Vec<u64>,
@@ -33,15 +35,16 @@ pub(crate) struct ForwardSearch<'a, V: RoutingGraph> {
     reached_nodes: ReachedNodes,
 }
 
-impl<'a, V: RoutingGraph> Model for ForwardSearch<'a, V> {
+impl<'a, V: RoutingGraph, P: Penalties> Model for ForwardSearch<'a, V, P> {
     ghost use Rattle.lgm_route.specs.inner.ForwardState.{ForwardState, forward_state, IsForwardState};
+    ghost use Rattle.lgm_route.specs.inner.Numbered.{asked};
 
     ghost Value = { ForwardState };
 
-    ghost view = { λ p. forward_state (V.graph p.view.now) p.request.now p.measure p.dist.items p.closed.items p.reached_nodes.reached.items };
+    ghost view = { λ p. forward_state (V.graph p.view.now) (asked (P.terms p.request.now.penalties) p.request.now) p.measure p.dist.items p.closed.items p.reached_nodes.reached.items };
 
     ghost invariant = { λ p. IsForwardState
-        (forward_state (V.graph p.view.now) p.request.now p.measure p.dist.items p.closed.items p.reached_nodes.reached.items) };
+        (forward_state (V.graph p.view.now) (asked (P.terms p.request.now.penalties) p.request.now) p.measure p.dist.items p.closed.items p.reached_nodes.reached.items) };
 }
 
 /// Lowers the fees to a node, which is then open again.
@@ -62,16 +65,19 @@ fn lower_at(dist: &mut Vec<u64>, closed: &mut Vec<bool>, node: usize, amount: u1
 
 /// What an edge adds: its fee for the request's amount or its delay, or 0 if the edge is the payer's own.
 #[inline(always)]
-fn charge(measure: Measure, request: &NumberedRequest, edge: &Edge) -> u128
+fn charge<P: Penalties>(measure: Measure, request: &NumberedRequest<P>, edge: &Edge) -> u128
     ensures first { edge.now.from ≡ request.now.payer → result ≡ 0 }
-    ensures most { result ≤ charged measure request.now edge.now }
-    ensures low { result < 2 ^ 97 }
+    ensures most { result ≤ charged measure (asked (P.terms request.now.penalties) request.now) edge.now }
+    ensures low { result < 2 ^ 98 }
 {
     if edge.from == request.payer {
         return 0;
     }
     match measure {
-        Measure::Fees => fee(request.amount, edge.base, edge.millionths),
+        Measure::Fees => {
+            let penalty = request.penalties.add(0, edge, request.amount);
+            fee(request.amount, edge.base, edge.millionths) + penalty as u128
+        }
         Measure::Delays => request.counted(edge) as u128,
     }
 }
@@ -112,16 +118,16 @@ fn none_closed(alloc: Global, nodes: usize) -> Result<Vec<bool>, AllocError>
     vec![in alloc; false; nodes]
 }
 
-impl<'a, V: RoutingGraph> ForwardSearch<'a, V> {
+impl<'a, V: RoutingGraph, P: Penalties> ForwardSearch<'a, V, P> {
     /// A search that has only reached the payer.
     pub(crate) fn new(
         alloc: Global,
         view: &'a V,
-        request: &'a NumberedRequest,
+        request: &'a NumberedRequest<P>,
         measure: Measure,
-    ) -> Result<ForwardSearch<'a, V>, AllocError>
+    ) -> Result<ForwardSearch<'a, V, P>, AllocError>
         ensures view { IfOk result (λ pass. pass.graph ≡ V.graph view.entry.now) }
-        ensures request { IfOk result (λ pass. pass.request ≡ request.entry.now) }
+        ensures request { IfOk result (λ pass. pass.request ≡ asked (P.terms request.entry.now.penalties) request.entry.now) }
         ensures measure { IfOk result (λ pass. pass.measure ≡ measure) }
     {
         let nodes = view.nodes();

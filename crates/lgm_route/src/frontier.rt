@@ -6,6 +6,7 @@ ghost use Rattle.lgm_route.specs.inner.Relaxations.{in_list};
 ghost use Rattle.lgm_route.specs.inner.SearchState.{AreRelaxationsAt, Extends};
 
 use crate::label::Label;
+use crate::penalties::Penalties;
 use crate::search::Search;
 use lgm_graph::RoutingGraph;
 use lgm_par::{Gate, Pool};
@@ -24,9 +25,9 @@ fn push(labels: &mut Vec<Label>, label: Option<Label>) -> Result<(), AllocError>
 }
 
 /// The relaxations of each label of a frontier, computed in chunks.
-fn all_relaxations<Rt: Threads + Sync, G: Gate, V: RoutingGraph + Sync>(
+fn all_relaxations<Rt: Threads + Sync, G: Gate, V: RoutingGraph + Sync, P: Penalties + Sync>(
     pool: &Pool<'_, Rt, G>,
-    search: &Search<'_, V>,
+    search: &Search<'_, V, P>,
     frontier: &[usize],
 ) -> Result<Vec<Result<Vec<Label>, AllocError>>, AllocError>
     requires { All (λ i. i < length search.now.labels) frontier.now }
@@ -37,7 +38,7 @@ fn all_relaxations<Rt: Threads + Sync, G: Gate, V: RoutingGraph + Sync>(
     pool.map(frontier, &|i| search.relaxations(alloc, *i))
 }
 
-impl<'a, V: RoutingGraph> Search<'a, V> {
+impl<'a, V: RoutingGraph, P: Penalties> Search<'a, V, P> {
     /// Whether a label is neither settled, pruned nor dominated.
     pub(crate) fn is_open(&self, i: usize) -> bool
         requires { i < length self.now.labels }
@@ -91,7 +92,7 @@ impl<'a, V: RoutingGraph> Search<'a, V> {
     }
 }
 
-impl<'a, V: RoutingGraph + Sync> Search<'a, V> {
+impl<'a, V: RoutingGraph + Sync, P: Penalties + Sync> Search<'a, V, P> {
     /// Relaxes the labels of a frontier in chunks, and then merges the results, in the order of the frontier.
     fn settle_in_chunks<Rt: Threads + Sync, G: Gate>(
         &mut self,

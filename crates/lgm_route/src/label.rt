@@ -1,9 +1,11 @@
 //! Labels: the search's representation of the rest of a walk.
 
-ghost use Rattle.std.specs.Prelude.{◌≡◌, ◌^◌, ◌≤◌, true, false, if◌then◌else◌};
+ghost use Rattle.std.specs.Prelude.{◌≡◌, ◌^◌, ◌≤◌, ◌+◌, ◌<◌, true, false, if◌then◌else◌};
+ghost use Rattle.lgm_route.specs.inner.Numbered.{asked};
 ghost use Rattle.lgm_route.specs.inner.Searching.{Begins, first_of, IsSpelled, IdsFirst, bound_of, IsFound};
 ghost use Rattle.lgm_route.specs.inner.Searching.{DoesDominate, SomeWalk, IsBetter, cost};
 
+use crate::penalties::Penalties;
 use crate::request::NumberedRequest;
 use lgm_graph::{Edge, RoutingGraph};
 
@@ -13,6 +15,8 @@ use lgm_graph::{Edge, RoutingGraph};
 pub(crate) struct Label {
     /// The amount that has to reach the node, in msat.
     pub amount: u64,
+    /// The penalties of its edges, in msat.
+    pub penalty: u64,
     /// The index of the parent: the label of the edges after the first one.
     pub parent: usize,
     /// The index of the first edge among those into the parent's node.
@@ -23,6 +27,17 @@ pub(crate) struct Label {
     pub hops: u16,
     /// The delay, in blocks that count.
     pub delay: u16,
+}
+
+impl Label {
+    /// What it costs so far, in msat: the amount and the penalties.
+    #[inline(always)]
+    pub(crate) fn cost(&self) -> u128
+        ensures exact { result ≡ self.now.amount + self.now.penalty }
+        ensures low { result < 2 ^ 65 }
+    {
+        self.amount as u128 + self.penalty as u128
+    }
 }
 
 /// The first edge of a label.
@@ -82,9 +97,14 @@ pub(crate) fn dominates<V: RoutingGraph>(
     requires also { IsSpelled (V.graph view.now) labels.now other.now }
     ensures { result ≡ true → DoesDominate (V.graph view.now) labels.now label.now other.now }
 {
-    if other.hops < label.hops || other.amount < label.amount || other.delay < label.delay {
+    let (cost, also) = (label.cost(), other.cost());
+    if other.hops < label.hops
+        || also < cost
+        || other.amount < label.amount
+        || other.delay < label.delay
+    {
         false
-    } else if label.amount < other.amount || label.hops < other.hops {
+    } else if cost < also || label.hops < other.hops {
         true
     } else {
         ids_first(view, labels, label, other)
@@ -94,35 +114,36 @@ pub(crate) fn dominates<V: RoutingGraph>(
 /// The bound that a better walk is below.
 #[inline(always)]
 pub(crate) fn bound_of(upper_bound: u128, best: &Option<Label>) -> u128
-    requires { upper_bound ≤ 2 ^ 64 }
+    requires { upper_bound ≤ 2 ^ 65 }
     ensures exact { result ≡ bound_of upper_bound best.now }
-    ensures low { result ≤ 2 ^ 70 }
+    ensures low { result ≤ 2 ^ 71 }
 {
     match best {
         None => cost(upper_bound, 0),
-        Some(best) => cost(best.amount as u128, best.hops as u128),
+        Some(best) => cost(best.cost(), best.hops as u128),
     }
 }
 
 /// Whether a new walk is better than the best so far.
-pub(crate) fn is_better<V: RoutingGraph>(
+pub(crate) fn is_better<V: RoutingGraph, P: Penalties>(
     view: &V,
-    request: &NumberedRequest,
+    request: &NumberedRequest<P>,
     labels: &[Label],
     upper_bound: u128,
     best: &Option<Label>,
     new: &Label,
 ) -> bool
-    requires found { IsFound (V.graph view.now) request.now labels.now upper_bound best.now }
-    requires new { SomeWalk (V.graph view.now) request.now labels.now new.now }
-    ensures { IsBetter (V.graph view.now) request.now labels.now upper_bound best.now new.now
+    requires found { IsFound (V.graph view.now) (asked (P.terms request.now.penalties) request.now) labels.now upper_bound best.now }
+    requires new { SomeWalk (V.graph view.now) (asked (P.terms request.now.penalties) request.now) labels.now new.now }
+    ensures { IsBetter (V.graph view.now) (asked (P.terms request.now.penalties) request.now) labels.now upper_bound best.now new.now
         (if result then Some new.now else best.now) }
 {
     match best {
-        None => (new.amount as u128) < upper_bound,
+        None => new.cost() < upper_bound,
         Some(best) => {
-            if new.amount != best.amount {
-                new.amount < best.amount
+            let (cost, least) = (new.cost(), best.cost());
+            if cost != least {
+                cost < least
             } else if new.hops != best.hops {
                 new.hops < best.hops
             } else {

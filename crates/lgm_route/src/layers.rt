@@ -3,6 +3,7 @@
 ghost use Rattle.std.specs.Prelude.{◌<◌, ◌≤◌, length, All, IfOk};
 ghost use Rattle.lgm_route.specs.inner.SearchState.{Extends};
 
+use crate::penalties::Penalties;
 use crate::queue::Queue;
 use crate::search::Search;
 use lgm_graph::RoutingGraph;
@@ -45,7 +46,10 @@ impl Layers {
     }
 
     /// Adds the new labels to their layers.
-    fn fill<V: RoutingGraph>(&mut self, search: &Search<'_, V>) -> Result<(), AllocError> {
+    fn fill<V: RoutingGraph, P: Penalties>(
+        &mut self,
+        search: &Search<'_, V, P>,
+    ) -> Result<(), AllocError> {
         for i in self.before.len()..search.len() {
             let hops = search.label(i).hops as usize;
             if hops < self.last.len() {
@@ -59,10 +63,10 @@ impl Layers {
     }
 
     /// The open labels with this many edges.
-    fn layer<V: RoutingGraph>(
+    fn layer<V: RoutingGraph, P: Penalties>(
         &self,
         alloc: Global,
-        search: &Search<'_, V>,
+        search: &Search<'_, V, P>,
         hops: u32,
     ) -> Result<Vec<usize>, AllocError>
         ensures { IfOk result (λ frontier. All (λ i. i < length search.now.labels) frontier.items) }
@@ -86,10 +90,10 @@ impl Layers {
 
     /// The next frontier: the open labels with the fewest edges, but more edges than those of the frontiers before.
     /// Empty if there are none.
-    fn frontier<V: RoutingGraph>(
+    fn frontier<V: RoutingGraph, P: Penalties>(
         &mut self,
         alloc: Global,
-        search: &Search<'_, V>,
+        search: &Search<'_, V, P>,
     ) -> Result<Vec<usize>, AllocError>
         ensures { IfOk result (λ frontier. All (λ i. i < length search.now.labels) frontier.items) }
     {
@@ -104,7 +108,7 @@ impl Layers {
     }
 }
 
-impl<'a, V: RoutingGraph> Search<'a, V> {
+impl<'a, V: RoutingGraph, P: Penalties> Search<'a, V, P> {
     /// The number of labels of an early frontier that are worth a worker: an eighth of the network's nodes, so that the
     /// search of a large network hardly ever starts threads early.
     fn early_share(&self) -> usize
@@ -114,7 +118,7 @@ impl<'a, V: RoutingGraph> Search<'a, V> {
     }
 }
 
-impl<'a, V: RoutingGraph + Sync> Search<'a, V> {
+impl<'a, V: RoutingGraph + Sync, P: Penalties + Sync> Search<'a, V, P> {
     /// Settles the first labels frontier by frontier: those with equal lower bounds together.
     fn settle_early<Rt: Threads + Sync, G: Gate>(
         &mut self,

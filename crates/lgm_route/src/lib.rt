@@ -16,6 +16,9 @@ mod label;
 mod laws;
 mod layers;
 mod pareto_fronts;
+mod penalties;
+mod preferences;
+mod preferred;
 mod queue;
 mod relaxation;
 mod request;
@@ -27,5 +30,7 @@ pub use best_route::{least, least_chunked, least_in, least_pooled, least_pooled_
 pub use fault::RouteFault;
 pub use laws::{answer_is_one, answer_within_is_one, least_is_one, narrowing_never_helps};
 pub use lgm_graph::{Hop, Route, RoutingGraph};
+pub use preferences::Preferences;
+pub use preferred::{SearchLimit, answer_preferred, preferred_in};
 pub use request::Request;
 pub use within::{DelayLimit, LimitedFault, least_within};

@@ -3,14 +3,16 @@
 ghost use Rattle.std.specs.Prelude.{IfSome, ◌≡◌, ◌≤◌, ℕ, IfOk, OnErr, false, slice_index_or};
 ghost use Rattle.lgm_route.specs.inner.Searching.{IsSpelled, AreSpelled, IsDominator, AreLabels, SomeRest, IsOffered};
 ghost use Rattle.lgm_route.specs.inner.Searching.{IsMarked};
+ghost use Rattle.lgm_route.specs.inner.Numbered.{asked};
 
 use crate::label::{Label, dominates};
+use crate::penalties::Penalties;
 use crate::request::NumberedRequest;
 use lgm_graph::RoutingGraph;
 use std::alloc::{AllocError, Global};
 
 /// For each node the Pareto front of its labels: the indices of the undominated ones, the latest first. Without a limit
-/// of the delay these are at most 20, since no two have the same number of edges. An index that
+/// of the delay and without penalties these are at most 20, since no two have the same number of edges. An index that
 /// is no label of the node ends the list. No contract depends on the fronts: whoever takes an index checks that its
 /// label dominates.
 #[derive(Drop)]
@@ -121,19 +123,19 @@ impl ParetoFronts {
 }
 
 /// Adds a label, unless it is dominated. More than this many labels count as out of memory.
-pub(crate) fn offer<V: RoutingGraph>(
+pub(crate) fn offer<V: RoutingGraph, P: Penalties>(
     view: &V,
-    request: &NumberedRequest,
+    request: &NumberedRequest<P>,
     labels: &mut Vec<Label>,
     fronts: &mut ParetoFronts,
     most: usize,
     new: Label,
 ) -> Result<(), AllocError>
-    requires labelled { AreLabels (V.graph view.now) request.now labels.old.items }
-    requires new { SomeRest (V.graph view.now) request.now labels.old.items new }
+    requires labelled { AreLabels (V.graph view.now) (asked (P.terms request.now.penalties) request.now) labels.old.items }
+    requires new { SomeRest (V.graph view.now) (asked (P.terms request.now.penalties) request.now) labels.old.items new }
     requires few { new.hops ≤ 19 }
     ensures offered { IfOk result
-        (λ _. IsOffered (V.graph view.now) request.now labels.old.items new labels.new.items) }
+        (λ _. IsOffered (V.graph view.now) (asked (P.terms request.now.penalties) request.now) labels.old.items new labels.new.items) }
     ensures stays { OnErr result (labels.new.items ≡ labels.old.items) }
 {
     match fronts.find_dominator(view, labels, &new) {

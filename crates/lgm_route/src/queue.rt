@@ -5,6 +5,7 @@ ghost use Rattle.lgm_route.specs.inner.SearchState.{Extends};
 
 use crate::entry::Entry;
 use crate::label::cost;
+use crate::penalties::Penalties;
 use crate::search::Search;
 use lgm_graph::RoutingGraph;
 use std::alloc::{AllocError, Global};
@@ -21,9 +22,9 @@ pub(crate) struct Queue {
 
 impl Queue {
     /// A queue of all labels, and of those that dives from them add.
-    pub(crate) fn of<V: RoutingGraph>(
+    pub(crate) fn of<V: RoutingGraph, P: Penalties>(
         alloc: Global,
-        search: &mut Search<'_, V>,
+        search: &mut Search<'_, V, P>,
     ) -> Result<Queue, AllocError>
         ensures { IfOk result (λ _. Extends search.old search.new) }
     {
@@ -37,9 +38,9 @@ impl Queue {
     }
 
     /// Queues the new labels, and those that dives from them add.
-    pub(crate) fn fill<V: RoutingGraph>(
+    pub(crate) fn fill<V: RoutingGraph, P: Penalties>(
         &mut self,
-        search: &mut Search<'_, V>,
+        search: &mut Search<'_, V, P>,
     ) -> Result<(), AllocError>
         ensures { IfOk result (λ _. Extends search.old search.new) }
     {
@@ -56,7 +57,7 @@ impl Queue {
     }
 
     /// The index of the label with the smallest lower bound, unless all are pruned.
-    fn next<V: RoutingGraph>(&mut self, search: &Search<'_, V>) -> Option<usize>
+    fn next<V: RoutingGraph, P: Penalties>(&mut self, search: &Search<'_, V, P>) -> Option<usize>
         ensures { IfSome result (λ i. i < length search.now.labels) }
     {
         let entry = self.heap.pop()?;
@@ -75,7 +76,10 @@ impl Queue {
 
 impl Queue {
     /// The open label with the least lower bound, unless the remaining ones can be pruned.
-    fn next_open<V: RoutingGraph>(&mut self, search: &Search<'_, V>) -> Option<usize>
+    fn next_open<V: RoutingGraph, P: Penalties>(
+        &mut self,
+        search: &Search<'_, V, P>,
+    ) -> Option<usize>
         ensures { IfSome result (λ i. i < length search.now.labels) }
     {
         for _turn in 0..usize::MAX {
@@ -88,7 +92,11 @@ impl Queue {
     }
 
     /// Whether the next label has the lower bound and the number of edges of this one.
-    fn is_next_level_with<V: RoutingGraph>(&self, search: &Search<'_, V>, i: usize) -> bool
+    fn is_next_level_with<V: RoutingGraph, P: Penalties>(
+        &self,
+        search: &Search<'_, V, P>,
+        i: usize,
+    ) -> bool
         requires { i < length search.now.labels }
     {
         let entry = Entry::new(search.excess_lower_bound(i), search.label(i).hops as u32, i);
@@ -100,10 +108,10 @@ impl Queue {
 
     /// The next frontier: of the open labels with the least lower bound, those with the fewest edges. Empty if the
     /// remaining labels can be pruned.
-    pub(crate) fn frontier<V: RoutingGraph>(
+    pub(crate) fn frontier<V: RoutingGraph, P: Penalties>(
         &mut self,
         alloc: Global,
-        search: &Search<'_, V>,
+        search: &Search<'_, V, P>,
     ) -> Result<Vec<usize>, AllocError>
         ensures { IfOk result (λ frontier. All (λ i. i < length search.now.labels) frontier.items) }
     {
@@ -127,15 +135,17 @@ impl Queue {
     }
 }
 
-impl<'a, V: RoutingGraph> Search<'a, V> {
-    /// A lower bound on what walks over a label send above the request's amount, in msat.
+impl<'a, V: RoutingGraph, P: Penalties> Search<'a, V, P> {
+    /// A lower bound on what walks over a label cost above the request's amount, in msat.
     #[inline(always)]
     pub(crate) fn excess_lower_bound(&self, i: usize) -> u64
         requires { i < length self.now.labels }
     {
         let label = self.label(i);
         let above = label.amount.saturating_sub(self.request().amount);
-        above.saturating_add(self.lower_bound(label.node))
+        above
+            .saturating_add(label.penalty)
+            .saturating_add(self.lower_bound(label.node))
     }
 
     /// Settles labels best-first until the remaining ones can be pruned.
@@ -191,9 +201,9 @@ impl Dives {
 
     /// Dives from a label with this bound, if it is smaller than those before and the label's node is near the payer.
     #[inline(always)]
-    pub(crate) fn dive<V: RoutingGraph>(
+    pub(crate) fn dive<V: RoutingGraph, P: Penalties>(
         &mut self,
-        search: &mut Search<'_, V>,
+        search: &mut Search<'_, V, P>,
         i: usize,
         excess_lower_bound: u64,
     ) -> Result<(), AllocError>

@@ -6,6 +6,7 @@ ghost use Rattle.lgm_route.specs.inner.Relaxations.{IsRelaxationOf};
 ghost use Rattle.lgm_route.specs.inner.SearchState.{Extends, IsIntoAt, IsRelaxationAt, IsRelaxedOn, IsLeftAt, bound_in};
 
 use crate::label::{Label, cost};
+use crate::penalties::Penalties;
 use crate::search::Search;
 use lgm_graph::{Edge, RoutingGraph, fee};
 use std::alloc::AllocError;
@@ -13,7 +14,7 @@ use std::alloc::AllocError;
 /// The maximum number of edges of a rest that is extended to a longer one.
 const MOST_EDGES: u16 = 19;
 
-impl<'a, V: RoutingGraph> Search<'a, V> {
+impl<'a, V: RoutingGraph, P: Penalties> Search<'a, V, P> {
     /// The relaxation of a label over one edge into its node, where no walk of this cost is better: a whole walk if the
     /// edge is the payer's, else a longer rest. None if the edge can't carry it, or if a longer rest would be too long, or its walks beyond the limit, or is pruned.
     #[inline(always)]
@@ -39,6 +40,7 @@ impl<'a, V: RoutingGraph> Search<'a, V> {
         if edge.from == request.payer {
             return Some(Label {
                 amount: label.amount,
+                penalty: label.penalty,
                 parent: i,
                 at,
                 node: edge.from,
@@ -50,8 +52,9 @@ impl<'a, V: RoutingGraph> Search<'a, V> {
             return None;
         }
         let amount = label.amount as u128 + fee(label.amount, edge.base, edge.millionths);
+        let penalty = request.penalties.add(label.penalty, edge, label.amount);
         let least = cost(
-            amount + self.lower_bound(edge.from) as u128,
+            amount + penalty as u128 + self.lower_bound(edge.from) as u128,
             label.hops as u128 + 1,
         );
         if bound <= least || amount >= 1 << 64 {
@@ -60,6 +63,7 @@ impl<'a, V: RoutingGraph> Search<'a, V> {
         let delay = self.delay_over(label, edge)?;
         Some(Label {
             amount: amount as u64,
+            penalty,
             parent: i,
             at,
             node: edge.from,

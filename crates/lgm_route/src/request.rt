@@ -2,10 +2,11 @@
 
 ghost use Rattle.std.specs.Prelude.{◌≡◌, false};
 ghost use Rattle.lgm_route.specs.Answers.{refusal};
-ghost use Rattle.lgm_route.specs.inner.Numbered.{counted, IsDelayOver};
+ghost use Rattle.lgm_route.specs.inner.Numbered.{asked, counted, IsDelayOver};
 ghost use Rattle.lgm_route.specs.inner.Bounding.{MayCarry};
 
 use crate::fault::RouteFault;
+use crate::penalties::Penalties;
 use lgm_gossip::Point;
 use lgm_graph::Edge;
 
@@ -48,9 +49,9 @@ impl Request {
 }
 
 /// A [`Request`](crate::Request) as a search reads it: with the node indices of payer and payee in a view, and maybe a
-/// limit of the delay.
+/// limit of the delay, and penalties.
 #[derive(Clone, Copy)]
-pub(crate) struct NumberedRequest {
+pub(crate) struct NumberedRequest<P> {
     /// The index of the node that pays.
     pub payer: u32,
     /// The index of the node that is paid.
@@ -60,9 +61,11 @@ pub(crate) struct NumberedRequest {
     /// The maximum delay, in blocks: the sum of `cltv_expiry_delta` of all channels but the first. Without one, no
     /// channel's delay counts.
     pub limit: Option<u16>,
+    /// What the payer would rather pay than use an edge.
+    pub penalties: P,
 }
 
-impl NumberedRequest {
+impl<P: Penalties> NumberedRequest<P> {
     /// The blocks of an edge that count.
     #[inline(always)]
     pub(crate) fn counted(&self, edge: &Edge) -> u16
@@ -77,7 +80,7 @@ impl NumberedRequest {
     /// Whether an edge alone is beyond the limit. The payer's own adds no delay.
     #[inline(always)]
     pub(crate) fn is_beyond(&self, edge: &Edge) -> bool
-        ensures { MayCarry self.now edge.now → result ≡ false }
+        ensures { MayCarry (asked (P.terms self.now.penalties) self.now) edge.now → result ≡ false }
     {
         match self.limit {
             None => false,

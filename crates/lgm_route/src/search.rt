@@ -3,7 +3,7 @@
 ghost use Rattle.std.specs.Prelude.{◌≡◌, ◌^◌, ◌-◌, ◌<◌, ◌≤◌, length, IfOk, true, false, slice_index_or, ◌+◌, ◌*◌};
 ghost use Rattle.lgm_graph.specs.Graph.{edges, edges_into, AreListed};
 ghost use Rattle.lgm_route.specs.inner.Bounding.{AreLow};
-ghost use Rattle.lgm_route.specs.inner.Numbered.{IsDelayOver};
+ghost use Rattle.lgm_route.specs.inner.Numbered.{asked, IsDelayOver};
 ghost use Rattle.lgm_route.specs.inner.Searching.{label_at, number_at, SomeRest, SomeWalk, IsOffered, IsBetter};
 ghost use Rattle.lgm_route.specs.inner.Searching.{IsUpperBound, IsDominatorOf, cost};
 ghost use Rattle.lgm_route.specs.inner.SearchState.{IsSearch, Extends, IsSettledAt, IsMarkedAt, IsFinished, IsPruned, bound_in};
@@ -14,6 +14,7 @@ use crate::bounds::LowerBounds;
 use crate::hops::rebuild;
 use crate::label::{Label, bound_of, cost, is_better};
 use crate::pareto_fronts::{ParetoFronts, mark, offer};
+use crate::penalties::Penalties;
 use crate::request::NumberedRequest;
 use lgm_gossip::Scid;
 use lgm_graph::{Edge, RoutingGraph};
@@ -30,11 +31,11 @@ use std::marker::Model;
 /// twenty labels per node are relaxed, one for each number of edges, if labels come best-first or by their number of
 /// edges.
 #[derive(Drop)]
-pub(crate) struct Search<'a, V: RoutingGraph> {
+pub(crate) struct Search<'a, V: RoutingGraph, P: Penalties> {
     view: &'a V,
-    request: NumberedRequest,
+    request: NumberedRequest<P>,
     low: LowerBounds,
-    /// An upper bound: some usable walk sends less, in msat, if there is one.
+    /// An upper bound: each usable walk costs less, in msat.
     upper_bound: u128,
     labels: Vec<Label>,
     /// The best walk so far.
@@ -46,24 +47,26 @@ pub(crate) struct Search<'a, V: RoutingGraph> {
     most_labels: usize,
 }
 
-impl<'a, V: RoutingGraph> Model for Search<'a, V> {
+impl<'a, V: RoutingGraph, P: Penalties> Model for Search<'a, V, P> {
     ghost use Rattle.lgm_route.specs.inner.SearchState.{SearchState, state_of, IsSearch};
+    ghost use Rattle.lgm_route.specs.inner.Numbered.{asked};
 
     ghost Value = { SearchState };
 
-    ghost view = { λ s. state_of (V.graph s.view.now) s.request s.low s.upper_bound s.labels.items s.best s.done.items };
+    ghost view = { λ s. state_of (V.graph s.view.now) (asked (P.terms s.request.penalties) s.request) s.low s.upper_bound s.labels.items s.best s.done.items };
 
     ghost invariant = { λ s. IsSearch
-        (state_of (V.graph s.view.now) s.request s.low s.upper_bound s.labels.items s.best s.done.items) };
+        (state_of (V.graph s.view.now) (asked (P.terms s.request.penalties) s.request) s.low s.upper_bound s.labels.items s.best s.done.items) };
 }
 
 /// The label without edges.
-fn at_payee(request: &NumberedRequest) -> Label
+fn at_payee<P: Penalties>(request: &NumberedRequest<P>) -> Label
     ensures { result
-        ≡ record { amount = request.now.amount; parent = 0; at = 0; node = request.now.payee; hops = 0; delay = 0 } }
+        ≡ record { amount = request.now.amount; penalty = 0; parent = 0; at = 0; node = request.now.payee; hops = 0; delay = 0 } }
 {
     Label {
         amount: request.amount,
+        penalty: 0,
         parent: 0,
         at: 0,
         node: request.payee,
@@ -72,22 +75,23 @@ fn at_payee(request: &NumberedRequest) -> Label
     }
 }
 
-impl<'a, V: RoutingGraph> Search<'a, V> {
+impl<'a, V: RoutingGraph, P: Penalties> Search<'a, V, P> {
     /// A new search, with the label at the payee.
     pub(crate) fn new(
         alloc: Global,
         view: &'a V,
-        request: NumberedRequest,
+        request: NumberedRequest<P>,
         low: LowerBounds,
         upper_bound: u128,
         most_labels: usize,
-    ) -> Result<Search<'a, V>, AllocError>
+    ) -> Result<Search<'a, V, P>, AllocError>
         requires listed { AreListed (V.graph view.now) }
         requires long { length low.fees ≡ length (V.graph view.now).points }
-        requires low { AreLow (edges (V.graph view.now)) request low }
-        requires small { upper_bound ≤ 2 ^ 64 }
+        requires low { AreLow (edges (V.graph view.now)) (asked (P.terms request.penalties) request) low }
+        requires small { upper_bound ≤ 2 ^ 65 }
+        requires upper_bound { IsUpperBound (edges (V.graph view.now)) (asked (P.terms request.penalties) request) upper_bound }
         ensures { IfOk result (λ search. search.ground
-            ≡ record { graph = V.graph view.entry.now; request = request; low = low; upper_bound = upper_bound }) }
+            ≡ record { graph = V.graph view.entry.now; request = asked (P.terms request.penalties) request; low = low; upper_bound = upper_bound }) }
     {
         let fronts = ParetoFronts::new(alloc, low.fees.len())?;
         let mut labels = Vec::new(alloc);
@@ -131,8 +135,8 @@ impl<'a, V: RoutingGraph> Search<'a, V> {
 
     /// The request.
     #[inline(always)]
-    pub(crate) fn request(&self) -> NumberedRequest
-        ensures { result ≡ self.now.ground.request }
+    pub(crate) fn request(&self) -> NumberedRequest<P>
+        ensures request { asked (P.terms result.penalties) result ≡ self.now.ground.request }
     {
         self.request
     }
@@ -177,7 +181,7 @@ impl<'a, V: RoutingGraph> Search<'a, V> {
     #[inline(always)]
     pub(crate) fn bound(&self) -> u128
         ensures exact { result ≡ bound_in self.now }
-        ensures low { result ≤ 2 ^ 70 }
+        ensures low { result ≤ 2 ^ 71 }
     {
         bound_of(self.upper_bound, &self.best)
     }
@@ -219,7 +223,7 @@ impl<'a, V: RoutingGraph> Search<'a, V> {
     }
 }
 
-impl<'a, V: RoutingGraph> Search<'a, V> {
+impl<'a, V: RoutingGraph, P: Penalties> Search<'a, V, P> {
     /// Adds a label, unless it is dominated.
     #[inline(always)]
     pub(crate) fn offer(&mut self, new: Label) -> Result<(), AllocError>
@@ -275,11 +279,10 @@ impl<'a, V: RoutingGraph> Search<'a, V> {
     }
 }
 
-impl<'a, V: RoutingGraph> Search<'a, V> {
+impl<'a, V: RoutingGraph, P: Penalties> Search<'a, V, P> {
     /// The best walk, once the search is finished, if one is usable.
     pub(crate) fn best_walk(&self, alloc: Global) -> Result<Option<Vec<Edge>>, AllocError>
         requires finished { IsFinished self.now }
-        requires upper_bound { IsUpperBound (edges self.now.ground.graph) self.now.ground.request self.now.ground.upper_bound }
         ensures { IfOk result (λ best. IsBestWalk (edges self.now.ground.graph) self.now.ground.request
             (option_map (λ walk. walk.items) best)) }
     {
@@ -293,15 +296,15 @@ impl<'a, V: RoutingGraph> Search<'a, V> {
     }
 }
 
-impl<'a, V: RoutingGraph> Search<'a, V> {
+impl<'a, V: RoutingGraph, P: Penalties> Search<'a, V, P> {
     /// A lower bound on the cost of walks over the label.
     #[inline(always)]
     pub(crate) fn cost_lower_bound(&self, label: &Label) -> u128
         ensures { result
-            ≡ cost (label.now.amount + number_at self.now.ground.low.fees label.now.node) label.now.hops }
+            ≡ cost (label.now.amount + label.now.penalty + number_at self.now.ground.low.fees label.now.node) label.now.hops }
     {
         cost(
-            label.amount as u128 + self.lower_bound(label.node) as u128,
+            label.amount as u128 + label.penalty as u128 + self.lower_bound(label.node) as u128,
             label.hops as u128,
         )
     }

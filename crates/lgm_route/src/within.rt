@@ -9,6 +9,7 @@ ghost use Rattle.lgm_route.specs.declared.within.LimitedFault.TheVariants.{Fault
 
 use crate::best_route::{best_walk_of_labels, least_in, numbered, route_over};
 use crate::fault::RouteFault;
+use crate::penalties::NoPenalties;
 use crate::request::Request;
 use lgm_graph::{Route, RoutingGraph};
 use std::alloc::{AllocError, Global};
@@ -62,7 +63,7 @@ fn search_within<V: RoutingGraph>(
     ensures bounded { result ≡ Err Undecided → limit.now.most_labels < 2 ^ 64 - 1 }
 {
     let most = Some(limit.most_delay);
-    let numbered = numbered(graph, request, most)?;
+    let numbered = numbered(graph, request, most, NoPenalties)?;
     let walk = best_walk_of_labels(alloc, graph, &numbered, limit.most_labels)?;
     let route = route_over(alloc, graph, request, most, &numbered, walk)?;
     Ok(route)

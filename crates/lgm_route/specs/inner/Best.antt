@@ -1,5 +1,5 @@
 -- The result of the search: the best walk over numbered edges, whose amount fits 64 bits.
-use Rattle.std.specs.Prelude.{◌≡◌, ℕ, ◌<◌, ◌≤◌, ◌^◌, List, Option, Some, None, Result, map, length, slice_index_or}
+use Rattle.std.specs.Prelude.{◌≡◌, ℕ, ◌<◌, ◌^◌, List, Option, Some, None, Result, map, length, slice_index_or}
 use Rattle.std.specs.List.{AllByRecursion, position}
 use Rattle.lgm_wire.specs.declared.point.Point.{Point}
 use Rattle.lgm_graph.specs.Edges.{PointEdge}
@@ -8,14 +8,16 @@ use Rattle.lgm_graph.specs.Graph.{Graph, edge_between, no_point, point_edges}
 use Rattle.lgm_store.specs.Rows.{is_point}
 use Rattle.lgm_route.specs.declared.request.Request.{Request}
 use Rattle.lgm_graph.specs.declared.route.Hop.{Hop}
-use Rattle.lgm_route.specs.declared.request.NumberedRequest.{NumberedRequest}
+use Rattle.lgm_route.specs.inner.Numbered.{Ask, Terms, penalty_of}
 use Rattle.lgm_route.specs.inner.Numbered.{sent, IsUsable, IsLeast}
 use Rattle.lgm_route.specs.declared.fault.RouteFault.{RouteFault}
 use Rattle.lgm_route.specs.Routes as routes
 use Rattle.lgm_route.specs.Answers.{IsFoundOver, IsAnswer}
 use Rattle.lgm_route.specs.Within as within
+use Rattle.lgm_route.specs.Preferred.{IsInTime, IsLeastBy}
+use Rattle.lgm_route.specs.declared.request.NumberedRequest.{NumberedRequest}
 
-abbrev pub IsBestWalk : List Edge → NumberedRequest → Option (List Edge) → Type 0
+abbrev pub IsBestWalk : List Edge → Ask → Option (List Edge) → Type 0
 IsBestWalk edges request None = (walk : List Edge) → IsUsable edges request walk → ⊥
 IsBestWalk edges request (Some walk) = IsLeast edges request walk × (sent request.amount walk < 2 ^ 64)
 
@@ -42,26 +44,21 @@ abbrev pub AreNumbered : Graph → List Edge → Type 0
 AreNumbered graph walk =
     AllByRecursion (λ edge. (edge.from < length graph.points) × (edge.to < length graph.points)) walk
 
--- the walk is within the limit, if there is one
-abbrev pub IsInTime : Option ℕ → List PointEdge → Type 0
-IsInTime None walk = Unit {0}
-IsInTime (Some limit) walk = within.delay walk ≤ limit
+-- the hops of the best walk, or none if no walk within the limit is usable
+abbrev pub IsBestBy : (PointEdge → ℕ → ℕ) → Option ℕ → List PointEdge → Request → Option (List Hop) → Type 0
+IsBestBy penalty limit edges request None =
+    (walk : List PointEdge) → routes.IsUsable edges request walk → IsInTime limit walk → ⊥
+IsBestBy penalty limit edges request (Some hops) =
+    (walk : List PointEdge) × IsLeastBy penalty limit edges request walk × (hops ≡ routes.hops_of request walk)
 
--- a usable walk, within the limit if there is one
-abbrev pub IsUsableFor : Option ℕ → List PointEdge → Request → List PointEdge → Type 0
-IsUsableFor None edges request walk = routes.IsUsable edges request walk
-IsUsableFor (Some limit) edges request walk = within.IsUsableWithin edges request limit walk
+-- the penalties of edges between numbered nodes are those of the edges between their points
+abbrev pub AreAlike : Graph → Option Terms → (PointEdge → ℕ → ℕ) → Type 0
+AreAlike graph terms penalty =
+    (edge : Edge) (amount : ℕ) → penalty_of terms edge amount ≡ penalty (edge_between graph.points edge) amount
 
--- the best of these
-abbrev pub IsLeastFor : Option ℕ → List PointEdge → Request → List PointEdge → Type 0
-IsLeastFor None edges request walk = routes.IsLeast edges request walk
-IsLeastFor (Some limit) edges request walk = within.IsLeastWithin edges request limit walk
-
--- its hops, or none if there is no such walk
-abbrev pub IsBestFor : Option ℕ → List PointEdge → Request → Option (List Hop) → Type 0
-IsBestFor limit edges request None = (walk : List PointEdge) → IsUsableFor limit edges request walk → ⊥
-IsBestFor limit edges request (Some hops) =
-    (walk : List PointEdge) × IsLeastFor limit edges request walk × (hops ≡ routes.hops_of request walk)
+-- no penalty for any edge
+abbrev pub free : PointEdge → ℕ → ℕ
+free edge amount = 0
 
 -- what is found, within the limit if there is one
 abbrev pub IsFoundFor : Option ℕ → List PointEdge → Request → Result (List Hop) RouteFault → Type 0
@@ -73,10 +70,10 @@ IsAnswerFor None edges request answer = IsAnswer edges request answer
 IsAnswerFor (Some limit) edges request answer = within.IsAnswerWithin limit edges request answer
 
 -- a request between numbered nodes, or none, if a node has no number and so no walk is usable
-abbrev pub IsNumberingOf : Graph → Request → Option ℕ → Option NumberedRequest → Type 0
-IsNumberingOf graph request limit None =
+abbrev pub IsNumberingOf : {P : Type 0} → Graph → Request → Option ℕ → P → Option (NumberedRequest P) → Type 0
+IsNumberingOf graph request limit penalties None =
     (walk : List PointEdge) → routes.IsUsable (point_edges graph) request walk → ⊥
-IsNumberingOf graph request limit (Some numbered) =
+IsNumberingOf graph request limit penalties (Some numbered) =
     (position (is_point request.payer) graph.points ≡ Some numbered.payer)
     × (position (is_point request.payee) graph.points ≡ Some numbered.payee) ×
-    (numbered ≡ record { payer = numbered.payer; payee = numbered.payee; amount = request.amount; limit = limit })
+    (numbered ≡ record { payer = numbered.payer; payee = numbered.payee; amount = request.amount; limit = limit; penalties = penalties })

@@ -5,30 +5,30 @@ use Rattle.lgm_graph.specs.Fee.{fee_of}
 use Rattle.lgm_graph.specs.declared.edge.Edge.{Edge}
 use Rattle.lgm_route.specs.declared.bounds.Measure.{Measure}
 use Rattle.lgm_route.specs.declared.bounds.Measure.TheVariants.{Fees, Delays}
-use Rattle.lgm_route.specs.declared.request.NumberedRequest.{NumberedRequest}
+use Rattle.lgm_route.specs.inner.Numbered.{Ask, penalty_of}
 use Rattle.lgm_route.specs.inner.Numbered.{counted, most_delay}
 use Rattle.lgm_route.specs.inner.Searching.{Low, number_at}
 
--- what an edge adds: its fee for the request's amount, or the blocks of it that count
-abbrev pub charged : Measure → NumberedRequest → Edge → ℕ
-charged Fees request edge = fee_of request.amount edge.base edge.millionths
+-- what an edge adds: its fee and its penalty for the request's amount, or the blocks of it that count
+abbrev pub charged : Measure → Ask → Edge → ℕ
+charged Fees request edge = fee_of request.amount edge.base edge.millionths + penalty_of request.terms edge request.amount
 charged Delays request edge = counted request.limit edge
 
 -- an edge that can carry the amount. Unless it is the payer's own, it isn't beyond the limit alone
-pub record MayCarry (request : NumberedRequest) (edge : Edge) : Type 0 where
+pub record MayCarry (request : Ask) (edge : Edge) : Type 0 where
   pub above_min : edge.min ≤ request.amount
   pub below_max : request.amount ≤ edge.max
   pub quick : (edge.from ≡ request.payer) ⊎ (counted request.limit edge ≤ most_delay request.limit)
 
 -- lower bounds on what is added from the payer to each node: over an edge they grow by at most what it adds
-pub record AreLowBy (measure : Measure) (edges : List Edge) (request : NumberedRequest) (low : List ℕ) : Type 0 where
+pub record AreLowBy (measure : Measure) (edges : List Edge) (request : Ask) (low : List ℕ) : Type 0 where
   pub rises : (edge : Edge) → Contains edges edge → MayCarry request edge →
       number_at low edge.to ≤ number_at low edge.from + charged measure request edge
   pub none : (edge : Edge) → Contains edges edge → MayCarry request edge
       → edge.from ≡ request.payer → number_at low edge.to ≡ 0
 
 -- lower bounds on the fees, and on the delays that count
-pub record AreLow (edges : List Edge) (request : NumberedRequest) (low : Low) : Type 0 where
+pub record AreLow (edges : List Edge) (request : Ask) (low : Low) : Type 0 where
   pub fees : AreLowBy Fees edges request low.fees
   pub delays : AreLowBy Delays edges request low.delays
 
@@ -46,7 +46,7 @@ pub record IsLowered (dist : List ℕ) (closed : List Bool) (node amount : ℕ) 
       → (is_closed closed other ≡ true) × (number_at after other ≡ number_at dist other)
 
 -- over the edges out of a closed node the fees grow by at most what the edge adds, and from the payer by nothing
-pub record IsSpread (measure : Measure) (edges : List Edge) (request : NumberedRequest) (dist : List ℕ)
+pub record IsSpread (measure : Measure) (edges : List Edge) (request : Ask) (dist : List ℕ)
     (closed : List Bool) : Type 0 where
   pub near : (edge : Edge) → Contains edges edge → is_closed closed edge.from ≡ true → MayCarry request edge →
       number_at dist edge.to ≤ number_at dist edge.from + charged measure request edge
@@ -55,12 +55,12 @@ pub record IsSpread (measure : Measure) (edges : List Edge) (request : NumberedR
   pub payer : number_at dist request.payer ≡ 0
 
 -- the fees to the edge's end are at most those to its start and what the edge adds, which is 0 from the payer
-pub record IsNear (measure : Measure) (request : NumberedRequest) (start nodes : ℕ) (dist : List ℕ) (edge : Edge) : Type 0 where
+pub record IsNear (measure : Measure) (request : Ask) (start nodes : ℕ) (dist : List ℕ) (edge : Edge) : Type 0 where
   pub over : edge.to < nodes → MayCarry request edge → number_at dist edge.to ≤ start + charged measure request edge
   pub first : edge.to < nodes → MayCarry request edge → edge.from ≡ request.payer → number_at dist edge.to ≤ start
 
 -- the effect of relaxing an edge
-pub record IsLooked (measure : Measure) (request : NumberedRequest) (start : ℕ) (edge : Edge) (dist : List ℕ) (closed : List Bool)
+pub record IsLooked (measure : Measure) (request : Ask) (start : ℕ) (edge : Edge) (dist : List ℕ) (closed : List Bool)
     (after : List ℕ) (now : List Bool) : Type 0 where
   pub falls : (other : ℕ) → number_at after other ≤ number_at dist other
   pub keeps : (edges : List Edge) → IsSpread measure edges request dist closed → IsSpread measure edges request after now

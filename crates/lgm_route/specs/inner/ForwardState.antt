@@ -2,20 +2,20 @@
 use Rattle.std.specs.Prelude.{◌≡◌, ℕ, ◌<◌, List, length, Bool}
 use Rattle.lgm_graph.specs.Graph.{Graph, edges, edges_leaving, AreListed}
 use Rattle.lgm_route.specs.declared.bounds.Measure.{Measure}
-use Rattle.lgm_route.specs.declared.request.NumberedRequest.{NumberedRequest}
+use Rattle.lgm_route.specs.inner.Numbered.{Ask}
 use Rattle.lgm_route.specs.inner.Searching.{number_at, edge_at}
 use Rattle.lgm_route.specs.inner.Bounding.{IsSpread, IsNear, AreReached}
 
 -- the edges and the request, what is measured, the fees to each node, which nodes are closed, and which were reached
 pub record ForwardState : Type 0 where
   pub graph : Graph
-  pub request : NumberedRequest
+  pub request : Ask
   pub measure : Measure
   pub dist : List ℕ
   pub closed : List Bool
   pub reached : List ℕ
 
-abbrev pub forward_state : Graph → NumberedRequest → Measure → List ℕ → List Bool → List ℕ → ForwardState
+abbrev pub forward_state : Graph → Ask → Measure → List ℕ → List Bool → List ℕ → ForwardState
 forward_state graph request measure dist closed reached = record {
   graph = graph;
   request = request;

@@ -1,11 +1,60 @@
 -- Walks over edges between numbered nodes: as in Routes, for the search.
-use Rattle.std.specs.Prelude.{◌≡◌, ℕ, ◌+◌, ◌<◌, ◌≤◌, List, [], ◌∷◌, length, map, Contains, Option, Some, None}
+use Rattle.std.specs.Prelude.{◌≡◌, ℕ, ◌+◌, ◌^◌, ◌<◌, ◌≤◌, min, List, [], ◌∷◌, length, map, Contains, Option, Some, None}
+use Rattle.std.specs.Prelude.{Bool, ◌&&◌, nat_eq, if◌then◌else◌}
 use Rattle.std.specs.declared.cmp.Ordering.TheVariants.{Less}
 use Rattle.std.specs.Ordering.{nat_cmp}
 use Rattle.std.specs.Cmp.Lexicographic.{slice_cmp}
 use Rattle.lgm_graph.specs.Fee.{fee_of}
 use Rattle.lgm_graph.specs.declared.edge.Edge.{Edge}
+use Rattle.lgm_route.specs.Odds.{odds}
 use Rattle.lgm_route.specs.declared.request.NumberedRequest.{NumberedRequest}
+
+-- what is known of the edge with an id out of a node: what it surely carries, and what the payer would rather pay than
+-- use it
+pub record Known : Type 0 where
+  pub scid : ℕ
+  pub from : ℕ
+  pub least : ℕ
+  pub flat : ℕ
+
+-- what a payer puts on a failed try and on each hop, and what it knows of edges
+pub record Terms : Type 0 where
+  pub failure : ℕ
+  pub hop : ℕ
+  pub known : List Known
+
+abbrev pub is_of : Edge → Known → Bool
+is_of edge known = nat_eq known.scid edge.scid && nat_eq known.from edge.from
+
+-- of what is known of the edge the first
+abbrev pub known_of : List Known → Edge → Known
+known_of [] edge = record { scid = edge.scid; from = edge.from; least = 0; flat = 0 }
+known_of (known ∷ more) edge = if is_of edge known then known else known_of more edge
+
+abbrev pub penalty_by : Terms → Known → Edge → ℕ → ℕ
+penalty_by terms known edge amount = min (2 ^ 40) (terms.hop + known.flat + odds terms.failure known.least edge.max amount)
+
+-- what the payer would rather pay than send the amount over the edge: nothing without terms
+abbrev pub penalty_of : Option Terms → Edge → ℕ → ℕ
+penalty_of None edge amount = 0
+penalty_of (Some terms) edge amount = penalty_by terms (known_of terms.known edge) edge amount
+
+-- a request as a search sees it
+pub record Ask : Type 0 where
+  pub payer : ℕ
+  pub payee : ℕ
+  pub amount : ℕ
+  pub limit : Option ℕ
+  pub terms : Option Terms
+
+abbrev pub asked : {P : Type 0} → Option Terms → NumberedRequest P → Ask
+asked terms request = record {
+  payer = request.payer;
+  payee = request.payee;
+  amount = request.amount;
+  limit = request.limit;
+  terms = terms;
+}
 
 -- what has to reach the first node of these edges so that the amount reaches their end, with the fee of each node on
 -- the way. Each edge carries what has to reach the edges after it: the last one the amount itself
@@ -17,6 +66,24 @@ owed amount (edge ∷ rest) = let passed = owed amount rest in passed + fee_of p
 abbrev pub sent : ℕ → List Edge → ℕ
 sent amount [] = amount
 sent amount (edge ∷ rest) = owed amount rest
+
+-- the penalties of these edges, each for what it carries
+abbrev pub penalties : Option Terms → ℕ → List Edge → ℕ
+penalties terms amount [] = 0
+penalties terms amount (edge ∷ rest) = penalties terms amount rest + penalty_of terms edge (owed amount rest)
+
+-- some rest has these penalties
+abbrev pub IsSpent : Option Terms → ℕ → Type 0
+IsSpent terms spent = (amount : ℕ) × (rest : List Edge) × (length rest ≤ 20) × (penalties terms amount rest ≡ spent)
+
+-- what has to reach the first node of these edges, and their penalties
+abbrev pub weight : Ask → List Edge → ℕ
+weight request rest = owed request.amount rest + penalties request.terms request.amount rest
+
+-- what a walk costs: the first edge is the payer's own, and has no penalty
+abbrev pub worth : Ask → List Edge → ℕ
+worth request [] = request.amount
+worth request (edge ∷ rest) = weight request rest
 
 -- the blocks of an edge that count: none without a limit
 abbrev pub counted : Option ℕ → Edge → ℕ
@@ -45,7 +112,7 @@ IsDelayOver limit delay edge before (Some longer) =
     (longer ≡ delay + counted limit edge) × (delay ≤ most_delay limit → longer ≤ most_delay limit)
 
 -- an edge of the list from the node that can carry what the edges after it need
-pub record IsStep (edges : List Edge) (request : NumberedRequest) (node : ℕ) (edge : Edge)
+pub record IsStep (edges : List Edge) (request : Ask) (node : ℕ) (edge : Edge)
     (rest : List Edge) : Type 0 where
   pub there : Contains edges edge
   pub leaves : edge.from ≡ node
@@ -53,13 +120,13 @@ pub record IsStep (edges : List Edge) (request : NumberedRequest) (node : ℕ) (
   pub below_max : owed request.amount rest ≤ edge.max
 
 -- consecutive edges, from the node to the payee
-abbrev pub IsRest : List Edge → NumberedRequest → ℕ → List Edge → Type 0
+abbrev pub IsRest : List Edge → Ask → ℕ → List Edge → Type 0
 IsRest edges request node [] = node ≡ request.payee
 IsRest edges request node (edge ∷ rest) =
     IsStep edges request node edge rest × IsRest edges request edge.to rest
 
 -- a walk of 1 to 20 edges, from the payer to the payee, within the request's limit
-pub record IsUsable (edges : List Edge) (request : NumberedRequest) (walk : List Edge) : Type 0 where
+pub record IsUsable (edges : List Edge) (request : Ask) (walk : List Edge) : Type 0 where
   pub some : 1 ≤ length walk
   pub few : length walk ≤ 20
   pub joins : IsRest edges request request.payer walk
@@ -68,14 +135,14 @@ pub record IsUsable (edges : List Edge) (request : NumberedRequest) (walk : List
 abbrev pub ids : List Edge → List ℕ
 ids walk = map (λ edge. edge.scid) walk
 
--- lexicographic order of what is sent, then the number of edges, then the ids
-abbrev pub Precedes : NumberedRequest → List Edge → List Edge → Type 0
+-- lexicographic order of what walks cost, then the number of edges, then the ids
+abbrev pub Precedes : Ask → List Edge → List Edge → Type 0
 Precedes request walk other =
     slice_cmp nat_cmp
-    (sent request.amount walk ∷ length walk ∷ ids walk)
-    (sent request.amount other ∷ length other ∷ ids other) ≡ Less
+    (worth request walk ∷ length walk ∷ ids walk)
+    (worth request other ∷ length other ∷ ids other) ≡ Less
 
 -- a usable walk that no usable walk precedes
-pub record IsLeast (edges : List Edge) (request : NumberedRequest) (walk : List Edge) : Type 0 where
+pub record IsLeast (edges : List Edge) (request : Ask) (walk : List Edge) : Type 0 where
   pub usable : IsUsable edges request walk
   pub first : (other : List Edge) → IsUsable edges request other → Precedes request other walk → ⊥

@@ -2,7 +2,7 @@
 use Rattle.std.specs.Prelude.{◌≡◌, ℕ, ◌+◌, ◌^◌, ◌≤◌, List, length, Option, Bool, true, false, slice_index_or}
 use Rattle.lgm_graph.specs.Graph.{Graph, edges, AreListed}
 use Rattle.lgm_graph.specs.declared.edge.Edge.{Edge}
-use Rattle.lgm_route.specs.declared.request.NumberedRequest.{NumberedRequest}
+use Rattle.lgm_route.specs.inner.Numbered.{Ask}
 use Rattle.lgm_route.specs.declared.label.Label.{Label}
 use Rattle.lgm_route.specs.inner.Numbered.{IsUsable}
 use Rattle.lgm_route.specs.inner.Bounding.{AreLow}
@@ -13,7 +13,7 @@ use Rattle.lgm_route.specs.inner.Relaxations.{IsInto, IsRelaxation, AreRelaxatio
 -- the edges, the request, lower bounds from the payer to each node, and an upper bound on the best walk
 pub record Ground : Type 0 where
   pub graph : Graph
-  pub request : NumberedRequest
+  pub request : Ask
   pub low : Low
   pub upper_bound : ℕ
 
@@ -24,7 +24,7 @@ pub record SearchState : Type 0 where
   pub best : Option Label
   pub done : List Bool
 
-abbrev pub state_of : Graph → NumberedRequest → Low → ℕ → List Label → Option Label → List Bool → SearchState
+abbrev pub state_of : Graph → Ask → Low → ℕ → List Label → Option Label → List Bool → SearchState
 state_of graph request low upper_bound labels best done = record {
   ground = record { graph = graph; request = request; low = low; upper_bound = upper_bound };
   labels = labels;
@@ -36,7 +36,8 @@ pub record IsGround (ground : Ground) : Type 0 where
   pub listed : AreListed ground.graph
   pub long : length ground.low.fees ≡ length ground.graph.points
   pub low : AreLow (edges ground.graph) ground.request ground.low
-  pub small : ground.upper_bound ≤ 2 ^ 64
+  pub small : ground.upper_bound ≤ 2 ^ 65
+  pub upper_bound : IsUpperBound (edges ground.graph) ground.request ground.upper_bound
 
 -- labels represent rests, the best walk is one, and marked labels are settled
 pub record IsSearch (state : SearchState) : Type 0 where
@@ -61,7 +62,7 @@ bound_in state = bound_of state.ground.upper_bound state.best
 abbrev pub IsPruned : SearchState → ℕ → Type 0
 IsPruned state i =
     let label = label_at state.labels i in
-    bound_in state ≤ cost (label.amount + number_at state.ground.low.fees label.node) label.hops
+    bound_in state ≤ cost (label.amount + label.penalty + number_at state.ground.low.fees label.node) label.hops
 
 -- the label at the index is settled
 abbrev pub IsSettledAt : SearchState → ℕ → Type 0
@@ -106,7 +107,7 @@ IsLeftAt before i after =
     after.labels after.best
 
 -- a new search over the graph for the request
-pub record IsBegun (graph : Graph) (request : NumberedRequest) (state : SearchState) : Type 0 where
+pub record IsBegun (graph : Graph) (request : Ask) (state : SearchState) : Type 0 where
   pub graph_is : state.ground.graph ≡ graph
   pub request_is : state.ground.request ≡ request
   pub upper_bound : IsUpperBound (edges state.ground.graph) state.ground.request state.ground.upper_bound

@@ -5,25 +5,26 @@ use Rattle.std.specs.Ordering.{nat_cmp, is_gt}
 use Rattle.std.specs.Cmp.Lexicographic.{slice_cmp}
 use Rattle.lgm_graph.specs.Graph.{Graph, edges, edges_into}
 use Rattle.lgm_graph.specs.declared.edge.Edge.{Edge}
-use Rattle.lgm_route.specs.declared.request.NumberedRequest.{NumberedRequest}
+use Rattle.lgm_route.specs.inner.Numbered.{Ask}
 use Rattle.lgm_route.specs.declared.label.Label.{Label}
-use Rattle.lgm_route.specs.inner.Numbered.{owed, sent, ids, delay, walk_delay, most_delay, IsRest, IsUsable}
+use Rattle.lgm_route.specs.inner.Numbered.{owed, sent, penalties, weight, worth, ids, delay, walk_delay, most_delay, IsRest, IsUsable}
 
 -- the first list equals the second, or precedes it
 abbrev pub NotAfter : List ℕ → List ℕ → Type 0
 NotAfter xs ys = is_gt (slice_cmp nat_cmp xs ys) ≡ false
 
-abbrev pub rest_key : NumberedRequest → List Edge → List ℕ
-rest_key request rest = owed request.amount rest ∷ length rest ∷ ids rest
+abbrev pub rest_key : Ask → List Edge → List ℕ
+rest_key request rest = weight request rest ∷ length rest ∷ ids rest
 
-abbrev pub walk_key : NumberedRequest → List Edge → List ℕ
-walk_key request walk = sent request.amount walk ∷ length walk ∷ ids walk
+abbrev pub walk_key : Ask → List Edge → List ℕ
+walk_key request walk = worth request walk ∷ length walk ∷ ids walk
 
--- one rest dominates another: it has no more edges and no more delay that counts, and doesn't come after it by amount,
--- number of edges and ids
-pub record Dominates (request : NumberedRequest) (rest other : List Edge) : Type 0 where
+-- one rest dominates another: it owes no more, has no more edges and no more delay that counts, and doesn't come after it
+-- by weight, number of edges and ids
+pub record Dominates (request : Ask) (rest other : List Edge) : Type 0 where
   pub fewer : length rest ≤ length other
   pub sooner : delay request.limit rest ≤ delay request.limit other
+  pub cheaper : owed request.amount rest ≤ owed request.amount other
   pub before : NotAfter (rest_key request rest) (rest_key request other)
 
 -- a placeholder if a list has no edge
@@ -45,7 +46,7 @@ abbrev pub edge_at : List Edge → ℕ → Edge
 edge_at edges i = slice_index_or edges i no_edge
 
 abbrev pub no_label : Label
-no_label = record { amount = 0; parent = 0; at = 0; node = 0; hops = 0; delay = 0 }
+no_label = record { amount = 0; penalty = 0; parent = 0; at = 0; node = 0; hops = 0; delay = 0 }
 
 abbrev pub label_at : List Label → ℕ → Label
 label_at labels i = slice_index_or labels i no_label
@@ -75,17 +76,18 @@ Spells graph labels label (edge ∷ rest) =
     × Spells graph labels (label_at labels label.parent) rest
 
 -- the rest that a label represents, within the limit
-pub record IsLabel (graph : Graph) (request : NumberedRequest) (labels : List Label) (label : Label)
+pub record IsLabel (graph : Graph) (request : Ask) (labels : List Label) (label : Label)
     (rest : List Edge) : Type 0 where
   pub spells : Spells graph labels label rest
   pub long : length rest ≡ label.hops
   pub joins : IsRest (edges graph) request label.node rest
   pub owes : owed request.amount rest ≡ label.amount
+  pub spends : penalties request.terms request.amount rest ≡ label.penalty
   pub waits : delay request.limit rest ≡ label.delay
   pub in_time : label.delay ≤ most_delay request.limit
 
 -- the walk that a label represents, whose amount is what is sent
-pub record IsWalk (graph : Graph) (request : NumberedRequest) (labels : List Label) (label : Label)
+pub record IsWalk (graph : Graph) (request : Ask) (labels : List Label) (label : Label)
     (walk : List Edge) : Type 0 where
   pub spells : Spells graph labels label walk
   pub long : length walk ≡ label.hops
@@ -93,6 +95,7 @@ pub record IsWalk (graph : Graph) (request : NumberedRequest) (labels : List Lab
   pub few : label.hops ≤ 20
   pub joins : IsRest (edges graph) request request.payer walk
   pub sends : sent request.amount walk ≡ label.amount
+  pub costs : worth request walk ≡ label.amount + label.penalty
   pub in_time : walk_delay request.limit walk ≤ most_delay request.limit
 
 -- a label represents as many edges as its number of hops
@@ -109,14 +112,14 @@ IdsFirst graph labels label other =
 -- the one label's rest dominates the other's
 abbrev pub DoesDominate : Graph → List Label → Label → Label → Type 0
 DoesDominate graph labels label other =
-    (request : NumberedRequest) (rest also : List Edge) →
+    (request : Ask) (rest also : List Edge) →
     IsLabel graph request labels label rest → IsLabel graph request labels other also
     → Dominates request rest also
 
-abbrev pub SomeRest : Graph → NumberedRequest → List Label → Label → Type 0
+abbrev pub SomeRest : Graph → Ask → List Label → Label → Type 0
 SomeRest graph request labels label = (rest : List Edge) × IsLabel graph request labels label rest
 
-abbrev pub SomeWalk : Graph → NumberedRequest → List Label → Label → Type 0
+abbrev pub SomeWalk : Graph → Ask → List Label → Label → Type 0
 SomeWalk graph request labels label = (walk : List Edge) × IsWalk graph request labels label walk
 
 -- what a walk sends, and then its number of edges, in one number: a better walk has a smaller one
@@ -126,17 +129,17 @@ cost msat edges = msat * 32 + edges
 -- the cost that a better walk is below
 abbrev pub bound_of : ℕ → Option Label → ℕ
 bound_of upper_bound None = cost upper_bound 0
-bound_of upper_bound (Some found) = cost found.amount found.hops
+bound_of upper_bound (Some found) = cost (found.amount + found.penalty) found.hops
 
--- the walk is no better than the best so far, or sends no less than the upper bound of the search
-abbrev pub IsNoBetter : Graph → NumberedRequest → List Label → ℕ → Option Label → List Edge → Type 0
-IsNoBetter graph request labels upper_bound None walk = upper_bound ≤ sent request.amount walk
+-- the walk is no better than the best so far, or costs no less than the upper bound of the search
+abbrev pub IsNoBetter : Graph → Ask → List Label → ℕ → Option Label → List Edge → Type 0
+IsNoBetter graph request labels upper_bound None walk = upper_bound ≤ worth request walk
 IsNoBetter graph request labels upper_bound (Some found) walk =
     (best : List Edge) × IsWalk graph request labels found best
     × NotAfter (walk_key request best) (walk_key request walk)
 
 -- a label at the node represents a rest that dominates this one
-pub record Has (graph : Graph) (request : NumberedRequest) (labels : List Label) (node : ℕ)
+pub record Has (graph : Graph) (request : Ask) (labels : List Label) (node : ℕ)
     (rest : List Edge) : Type 0 where
   pub place : ℕ
   pub within : place < length labels
@@ -145,17 +148,17 @@ pub record Has (graph : Graph) (request : NumberedRequest) (labels : List Label)
   pub is : IsLabel graph request labels (label_at labels place) other
   pub dominates : Dominates request other rest
 
--- no walk over this rest is better than the best so far: it is pruned
-abbrev pub IsHopeless : NumberedRequest → Low → ℕ → ℕ → List Edge → Type 0
+-- no walk over this rest is better than the best so far, or no edge can carry what it owes: it is pruned
+abbrev pub IsHopeless : Ask → Low → ℕ → ℕ → List Edge → Type 0
 IsHopeless request low bound node rest =
-    bound ≤ cost (owed request.amount rest + number_at low.fees node) (length rest)
+    (bound ≤ cost (weight request rest + number_at low.fees node) (length rest)) ⊎ (2 ^ 64 ≤ owed request.amount rest)
 
-abbrev pub Reaches : Graph → NumberedRequest → Low → ℕ → List Label → Option Label → ℕ → List Edge → Type 0
+abbrev pub Reaches : Graph → Ask → Low → ℕ → List Label → Option Label → ℕ → List Edge → Type 0
 Reaches graph request low upper_bound labels found node rest =
     Has graph request labels node rest ⊎ IsHopeless request low (bound_of upper_bound found) node rest
 
 -- the rest was relaxed over this edge: to a walk, or else to a longer rest, if a walk over that can be within the limit
-pub record IsRelaxed (graph : Graph) (request : NumberedRequest) (low : Low) (upper_bound : ℕ)
+pub record IsRelaxed (graph : Graph) (request : Ask) (low : Low) (upper_bound : ℕ)
     (labels : List Label) (found : Option Label) (edge : Edge) (rest : List Edge) : Type 0 where
   pub whole : edge.from ≡ request.payer → IsNoBetter graph request labels upper_bound found (edge ∷ rest)
   pub longer : length rest < 19
@@ -163,14 +166,14 @@ pub record IsRelaxed (graph : Graph) (request : NumberedRequest) (low : Low) (up
       → Reaches graph request low upper_bound labels found edge.from (edge ∷ rest)
 
 -- over every edge into the node that can carry it
-abbrev pub IsLeft : Graph → NumberedRequest → Low → ℕ → List Label → Option Label → ℕ → List Edge → Type 0
+abbrev pub IsLeft : Graph → Ask → Low → ℕ → List Label → Option Label → ℕ → List Edge → Type 0
 IsLeft graph request low upper_bound labels found node rest =
     (edge : Edge) → Contains (edges graph) edge → edge.to ≡ node → edge.min ≤ request.amount
     → owed request.amount rest ≤ edge.max →
     IsRelaxed graph request low upper_bound labels found edge rest
 
 -- a label is pruned, or its rest or one that dominates it was relaxed
-pub record IsSettled (graph : Graph) (request : NumberedRequest) (low : Low) (upper_bound : ℕ)
+pub record IsSettled (graph : Graph) (request : Ask) (low : Low) (upper_bound : ℕ)
     (labels : List Label) (found : Option Label) (label : Label) : Type 0 where
   pub rest : List Edge
   pub is : IsLabel graph request labels label rest
@@ -179,21 +182,21 @@ pub record IsSettled (graph : Graph) (request : NumberedRequest) (low : Low) (up
       × IsLeft graph request low upper_bound labels found label.node other)
 
 -- the labels represent rests, the first of them the one without edges
-pub record AreLabels (graph : Graph) (request : NumberedRequest) (labels : List Label) : Type 0 where
+pub record AreLabels (graph : Graph) (request : Ask) (labels : List Label) : Type 0 where
   pub some : 1 ≤ length labels
   pub first : ((label_at labels 0).node ≡ request.payee) × ((label_at labels 0).hops ≡ 0)
   pub sound : (i : ℕ) → i < length labels
       → (rest : List Edge) × IsLabel graph request labels (label_at labels i) rest
   pub few : (i : ℕ) → i < length labels → (label_at labels i).hops ≤ 19
 
--- the best walk so far is a usable walk, and sends less than the upper bound of the search
-abbrev pub IsFound : Graph → NumberedRequest → List Label → ℕ → Option Label → Type 0
+-- the best walk so far is a usable walk, and costs less than the upper bound of the search
+abbrev pub IsFound : Graph → Ask → List Label → ℕ → Option Label → Type 0
 IsFound graph request labels upper_bound None = Unit {0}
 IsFound graph request labels upper_bound (Some found) =
-    ((walk : List Edge) × IsWalk graph request labels found walk) × (found.amount < upper_bound)
+    ((walk : List Edge) × IsWalk graph request labels found walk) × (found.amount + found.penalty < upper_bound)
 
 -- labels were added, and the best walk so far is no worse
-pub record Grows (graph : Graph) (request : NumberedRequest) (upper_bound : ℕ) (labels : List Label)
+pub record Grows (graph : Graph) (request : Ask) (upper_bound : ℕ) (labels : List Label)
     (found : Option Label) (after : List Label) (now : Option Label) : Type 0 where
   pub more : List Label
   pub is : after ≡ labels ++ more
@@ -202,18 +205,18 @@ pub record Grows (graph : Graph) (request : NumberedRequest) (upper_bound : ℕ)
       → IsNoBetter graph request after upper_bound now walk
 
 -- the better of the best walk so far and the new one
-pub record IsBetter (graph : Graph) (request : NumberedRequest) (labels : List Label) (upper_bound : ℕ)
+pub record IsBetter (graph : Graph) (request : Ask) (labels : List Label) (upper_bound : ℕ)
     (found : Option Label) (new : Label) (now : Option Label) : Type 0 where
   pub found_is : IsFound graph request labels upper_bound now
   pub lower : bound_of upper_bound now ≤ bound_of upper_bound found
-  pub below : bound_of upper_bound now ≤ cost new.amount new.hops
+  pub below : bound_of upper_bound now ≤ cost (new.amount + new.penalty) new.hops
   pub keeps : (walk : List Edge) → IsNoBetter graph request labels upper_bound found walk
       → IsNoBetter graph request labels upper_bound now walk
   pub takes : (walk : List Edge) → IsWalk graph request labels new walk
       → IsNoBetter graph request labels upper_bound now walk
 
 -- there is a label that dominates the new one
-pub record IsOffered (graph : Graph) (request : NumberedRequest) (labels : List Label) (new : Label)
+pub record IsOffered (graph : Graph) (request : Ask) (labels : List Label) (new : Label)
     (after : List Label) : Type 0 where
   pub labelled : AreLabels graph request after
   pub more : List Label
@@ -221,7 +224,7 @@ pub record IsOffered (graph : Graph) (request : NumberedRequest) (labels : List 
   pub has : (rest : List Edge) → IsLabel graph request labels new rest → Has graph request after new.node rest
 
 -- the label was relaxed over the edge, if that can carry it
-abbrev pub RelaxesOn : Graph → NumberedRequest → Low → ℕ → List Label → ℕ → List Label → Option Label
+abbrev pub RelaxesOn : Graph → Ask → Low → ℕ → List Label → ℕ → List Label → Option Label
     → Edge → Type 0
 RelaxesOn graph request low upper_bound labels i after now edge =
     (rest : List Edge) → IsLabel graph request labels (label_at labels i) rest →
@@ -229,7 +232,7 @@ RelaxesOn graph request low upper_bound labels i after now edge =
     IsRelaxed graph request low upper_bound after now edge rest
 
 -- the label was relaxed
-abbrev pub RelaxesAll : Graph → NumberedRequest → Low → ℕ → List Label → ℕ → List Label
+abbrev pub RelaxesAll : Graph → Ask → Low → ℕ → List Label → ℕ → List Label
     → Option Label → Type 0
 RelaxesAll graph request low upper_bound labels i after now =
     (rest : List Edge) → IsLabel graph request labels (label_at labels i) rest
@@ -255,14 +258,14 @@ pub record IsDominator (graph : Graph) (labels : List Label) (label : Label) (pl
 abbrev pub IsDominatorOf : Graph → List Label → ℕ → ℕ → Type 0
 IsDominatorOf graph labels i place = IsDominator graph labels (label_at labels i) place
 
--- if some walk is usable, one sends less than this
-abbrev pub IsUpperBound : List Edge → NumberedRequest → ℕ → Type 0
+-- each usable walk costs less than this, and sends less than 2^64
+abbrev pub IsUpperBound : List Edge → Ask → ℕ → Type 0
 IsUpperBound edges request upper_bound =
     (walk : List Edge) → IsUsable edges request walk
-    → (other : List Edge) × IsUsable edges request other × (sent request.amount other < upper_bound)
+    → (worth request walk < upper_bound) × (sent request.amount walk < 2 ^ 64)
 
 -- every marked label is settled
-abbrev pub AreSettled : Graph → NumberedRequest → Low → ℕ → List Label → Option Label → List Bool → Type 0
+abbrev pub AreSettled : Graph → Ask → Low → ℕ → List Label → Option Label → List Bool → Type 0
 AreSettled graph request low upper_bound labels found done =
     (i : ℕ) → slice_index_or done i false ≡ true
     → (i < length labels) × IsSettled graph request low upper_bound labels found (label_at labels i)

@@ -3,13 +3,14 @@ use Rattle.lgm_graph.specs.Graph.{edges}
 use Rattle.lgm_route.specs.inner.Numbered.{sent, IsLeast}
 use Rattle.lgm_route.specs.inner.Searching.{Spells}
 use Rattle.lgm_route.specs.inner.SearchState.{SearchState, state_of, IsFinished}
+use Rattle.lgm_route.specs.inner.Numbered.{asked}
 use Rattle.lgm_route.proofs.Searches.{walk_least}
 use Rattle.lgm_route.proofs.search.Search.best_walk.Goals as goal
 
 pub returns-in_ok-walk-in-Some : goal.returns-in_ok-walk-in-Some
 returns-in_ok-walk-in-Some g c =
     let s : SearchState =
-    state_of (g.V.RoutingGraph.graph c.self.inside.view.now) c.self.inside.request c.self.inside.low c.self.inside.upper_bound
+    state_of (g.V.RoutingGraph.graph c.self.inside.view.now) (asked (g.P.Penalties.terms c.self.inside.request.penalties) c.self.inside.request) c.self.inside.low c.self.inside.upper_bound
     c.self.inside.labels.items c.self.inside.best c.self.inside.done.items in
     let walk = c.in_ok-walk-in-Some.walk.items in
     let spelled =

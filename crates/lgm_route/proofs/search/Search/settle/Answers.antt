@@ -6,7 +6,7 @@ use Rattle.lgm_route.proofs.search.Search.settle.Goals as goal
 pub mark-requires-clause-settled : goal.mark-requires-clause-settled
 mark-requires-clause-settled g c =
     let s = c.args.self.now in
-    let least = c.cost_lower_bound.ensures ∙ ap (λ l. cost (l.amount + number_at s.ground.low.fees l.node) l.hops) c.label-label.ensures.label in
+    let least = c.cost_lower_bound.ensures ∙ ap (λ l. cost (l.amount + l.penalty + number_at s.ground.low.fees l.node) l.hops) c.label-label.ensures.label in
     settled_vain s c.args.i c.label-label.ensures.search c.requires (omega (arith, least, c.bound.ensures.exact, c.if-bound-cost_lower_bound.true))
 
 pub mark-requires-2-clause-settled : goal.mark-requires-2-clause-settled
@@ -22,23 +22,23 @@ returns-clause-extends g c =
 pub returns-in_err-close-clause-pruned : goal.returns-in_err-close-clause-pruned
 returns-in_err-close-clause-pruned g c pruned =
     let s = c.args.self.now in
-    let least = c.cost_lower_bound.ensures ∙ ap (λ l. cost (l.amount + number_at s.ground.low.fees l.node) l.hops) c.label-label.ensures.label in
+    let least = c.cost_lower_bound.ensures ∙ ap (λ l. cost (l.amount + l.penalty + number_at s.ground.low.fees l.node) l.hops) c.label-label.ensures.label in
     absurd (omega (arith, least, c.bound.ensures.exact, c.if-bound-cost_lower_bound.false, pruned))
 
 pub returns-then-is_done-2-clause-pruned : goal.returns-then-is_done-2-clause-pruned
 returns-then-is_done-2-clause-pruned g c pruned =
     let s = c.args.self.now in
-    let least = c.cost_lower_bound.ensures ∙ ap (λ l. cost (l.amount + number_at s.ground.low.fees l.node) l.hops) c.label-label.ensures.label in
+    let least = c.cost_lower_bound.ensures ∙ ap (λ l. cost (l.amount + l.penalty + number_at s.ground.low.fees l.node) l.hops) c.label-label.ensures.label in
     absurd (omega (arith, least, c.bound.ensures.exact, c.if-bound-cost_lower_bound.false, pruned))
 
 pub returns-in_err-mark-2-clause-pruned : goal.returns-in_err-mark-2-clause-pruned
 returns-in_err-mark-2-clause-pruned g c pruned =
     let s = c.args.self.now in
-    let least = c.cost_lower_bound.ensures ∙ ap (λ l. cost (l.amount + number_at s.ground.low.fees l.node) l.hops) c.label-label.ensures.label in
+    let least = c.cost_lower_bound.ensures ∙ ap (λ l. cost (l.amount + l.penalty + number_at s.ground.low.fees l.node) l.hops) c.label-label.ensures.label in
     absurd (omega (arith, least, c.bound.ensures.exact, c.if-bound-cost_lower_bound.false, pruned))
 
 pub returns-clause-pruned : goal.returns-clause-pruned
 returns-clause-pruned g c pruned =
     let s = c.args.self.now in
-    let least = c.cost_lower_bound.ensures ∙ ap (λ l. cost (l.amount + number_at s.ground.low.fees l.node) l.hops) c.label-label.ensures.label in
+    let least = c.cost_lower_bound.ensures ∙ ap (λ l. cost (l.amount + l.penalty + number_at s.ground.low.fees l.node) l.hops) c.label-label.ensures.label in
     absurd (omega (arith, least, c.bound.ensures.exact, c.if-bound-cost_lower_bound.false, pruned))

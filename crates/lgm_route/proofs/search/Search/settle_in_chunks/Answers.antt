@@ -4,8 +4,11 @@ use Rattle.std.proofs.lemmas.Slice.Zip.{AllZip-long}
 use Rattle.lgm_par.proofs.PlacewiseLaws.{zip_at}
 use Rattle.lgm_route.specs.declared.label.Label.{Label}
 use Rattle.lgm_route.specs.inner.SearchState.{AreRelaxationsAt}
-use Rattle.lgm_route.proofs.Searches.{leads_at_later}
+use Rattle.lgm_route.proofs.Searches.{extends-refl, leads_at_later}
 use Rattle.lgm_route.proofs.search.Search.settle_in_chunks.Goals as goal
+
+pub loop-k-init : goal.loop-k-init
+loop-k-init g c = extends-refl c.args.self.now
 
 pub index-requires : goal.index-requires
 index-requires g c =
