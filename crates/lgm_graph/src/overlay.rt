@@ -1,6 +1,6 @@
 //! What a payer knows beside the map.
 
-ghost use Rattle.std.specs.Prelude.{◌≡◌, ◌++◌, ◌∷◌, [], map, length, OnOk, OnErr};
+ghost use Rattle.std.specs.Prelude.{◌≡◌, ◌++◌, ◌∷◌, [], map, length, true, OnOk, OnErr};
 ghost use Rattle.lgm_graph.specs.Overlay.{extra_edge, no_overlay};
 
 use lgm_gossip::{Point, Scid};
@@ -110,6 +110,13 @@ impl Overlay {
     {
         self.silent.push(node)?;
         Ok(())
+    }
+
+    /// Whether it changes nothing: no edge, limit or silent node was added.
+    pub fn is_empty(&self) -> bool
+        ensures { result ≡ true → self.now ≡ no_overlay }
+    {
+        self.extra.is_empty() && self.limits.is_empty() && self.silent.is_empty()
     }
 
     /// The number of extra edges that were added.

@@ -109,78 +109,74 @@ found_usable edges request walk there =
 -- ---- the best of them
 
 -- no walk of the list has a lesser key
-abbrev pub NoneBefore : Request → List PointEdge → List (List PointEdge) → Type 0
-NoneBefore request best walks = (other : List PointEdge) → Among walks other → NotAfter (walk_key request best) (walk_key request other)
+abbrev pub NoneBefore : (List PointEdge → List ℕ) → List PointEdge → List (List PointEdge) → Type 0
+NoneBefore key best walks = (other : List PointEdge) → Among walks other → NotAfter (key best) (key other)
 
 -- the better of two walks
-abbrev IsLesser : Request → List PointEdge → List PointEdge → List PointEdge → Type 0
-IsLesser request walk other best =
-    (NotAfter (walk_key request best) (walk_key request walk)
-    × NotAfter (walk_key request best) (walk_key request other)) × ((best ≡ walk) ⊎ (best ≡ other))
+abbrev pub IsLesser : (List PointEdge → List ℕ) → List PointEdge → List PointEdge → List PointEdge → Type 0
+IsLesser key walk other best =
+    (NotAfter (key best) (key walk) × NotAfter (key best) (key other)) × ((best ≡ walk) ⊎ (best ≡ other))
 
-lesser_of : (request : Request) (walk other : List PointEdge) → IsLesser request walk other (lesser request walk other)
-lesser_of request walk other = by (slice_cmp nat_cmp (walk_key request other) (walk_key request walk)) refl
+lesser_of : (key : List PointEdge → List ℕ) (walk other : List PointEdge) → IsLesser key walk other (lesser key walk other)
+lesser_of key walk other = by (slice_cmp nat_cmp (key other) (key walk)) refl
   where
-    kept : (slice_cmp nat_cmp (walk_key request other) (walk_key request walk) ≡ Less → ⊥) → IsLesser request walk other walk
-    kept later = ((NotAfter-refl (walk_key request walk), not_after (walk_key request walk) (walk_key request other) later), inl refl)
+    kept : (slice_cmp nat_cmp (key other) (key walk) ≡ Less → ⊥) → IsLesser key walk other walk
+    kept later = ((NotAfter-refl (key walk), not_after (key walk) (key other) later), inl refl)
 
-    by : (o : Ordering) → slice_cmp nat_cmp (walk_key request other) (walk_key request walk) ≡ o
-        → IsLesser request walk other
-        (cond (is_lt (slice_cmp nat_cmp (walk_key request other) (walk_key request walk))) other walk)
-    by Less e = rw e ((before e, NotAfter-refl (walk_key request other)), inr refl)
+    by : (o : Ordering) → slice_cmp nat_cmp (key other) (key walk) ≡ o
+        → IsLesser key walk other (cond (is_lt (slice_cmp nat_cmp (key other) (key walk))) other walk)
+    by Less e = rw e ((before e, NotAfter-refl (key other)), inr refl)
       where
-        before : slice_cmp nat_cmp (walk_key request other) (walk_key request walk) ≡ Less → NotAfter (walk_key request other) (walk_key request walk)
+        before : slice_cmp nat_cmp (key other) (key walk) ≡ Less → NotAfter (key other) (key walk)
         before is = ap is_gt is
     by Equal e = rw e (kept (λ less. let bad = sym e ∙ less in absurd cc))
     by Greater e = rw e (kept (λ less. let bad = sym e ∙ less in absurd cc))
 
 -- with one more walk in front
-one_more : (request : Request) (best walk next last : List PointEdge) (walks : List (List PointEdge)) → IsLesser request best walk next →
-    Among (next ∷ walks) last × NoneBefore request last (next ∷ walks)
-    → Among (best ∷ walk ∷ walks) last × NoneBefore request last (best ∷ walk ∷ walks)
-one_more request best walk next last walks is later = (among later.0 is.1, none)
+one_more : (key : List PointEdge → List ℕ) (best walk next last : List PointEdge) (walks : List (List PointEdge)) → IsLesser key best walk next →
+    Among (next ∷ walks) last × NoneBefore key last (next ∷ walks)
+    → Among (best ∷ walk ∷ walks) last × NoneBefore key last (best ∷ walk ∷ walks)
+one_more key best walk next last walks is later = (among later.0 is.1, none)
   where
     among : Among (next ∷ walks) last → (next ≡ best) ⊎ (next ≡ walk) → Among (best ∷ walk ∷ walks) last
     among (inl same) (inl e) = inl (sym e ∙ same)
     among (inl same) (inr e) = inr (inl (sym e ∙ same))
     among (inr there) e = inr (inr there)
 
-    before : NotAfter (walk_key request last) (walk_key request next)
+    before : NotAfter (key last) (key next)
     before = later.1 next (inl refl)
 
-    none : NoneBefore request last (best ∷ walk ∷ walks)
+    none : NoneBefore key last (best ∷ walk ∷ walks)
     none other (inl same) =
-        subst (λ w. NotAfter (walk_key request last) (walk_key request w)) same (NotAfter-trans
-        (walk_key request last) (walk_key request next) (walk_key request best) before (is.0).0)
+        subst (λ w. NotAfter (key last) (key w)) same (NotAfter-trans (key last) (key next) (key best) before (is.0).0)
     none other (inr (inl same)) =
-        subst (λ w. NotAfter (walk_key request last) (walk_key request w)) same (NotAfter-trans
-        (walk_key request last) (walk_key request next) (walk_key request walk) before (is.0).1)
+        subst (λ w. NotAfter (key last) (key w)) same (NotAfter-trans (key last) (key next) (key walk) before (is.0).1)
     none other (inr (inr there)) = later.1 other (inr there)
 
-pub folded : (request : Request) (best : List PointEdge) (walks : List (List PointEdge)) →
-    Among (best ∷ walks) (fold (lesser request) best walks) × NoneBefore request (fold (lesser request) best walks) (best ∷ walks)
-folded request best [] = (inl refl, none)
+pub folded : (key : List PointEdge → List ℕ) (best : List PointEdge) (walks : List (List PointEdge)) →
+    Among (best ∷ walks) (fold (lesser key) best walks) × NoneBefore key (fold (lesser key) best walks) (best ∷ walks)
+folded key best [] = (inl refl, none)
   where
-    none : NoneBefore request best (best ∷ [])
-    none other (inl same) = subst (λ w. NotAfter (walk_key request best) (walk_key request w)) same (NotAfter-refl (walk_key request best))
+    none : NoneBefore key best (best ∷ [])
+    none other (inl same) = subst (λ w. NotAfter (key best) (key w)) same (NotAfter-refl (key best))
     none other (inr there) = absurd there
-folded request best (walk ∷ walks) =
-    let next = lesser request best walk in
-    one_more request best walk next (fold (lesser request) next walks) walks (lesser_of request best walk) (folded request next walks)
+folded key best (walk ∷ walks) =
+    let next = lesser key best walk in
+    one_more key best walk next (fold (lesser key) next walks) walks (lesser_of key best walk) (folded key next walks)
 
 -- ---- the answer
 
 least_found : (edges : List PointEdge) (request : Request) (walks : List (List PointEdge)) → walks ≡ usable_walks edges request →
-    IsFoundOver edges request (found_by request (least_of request walks))
+    IsFoundOver edges request (found_by request (least_of (walk_key request) walks))
 least_found edges request [] same =
     (refl, λ walk usable. subst (λ ws. Among ws walk) (sym same) (usable_found edges request walk usable))
 least_found edges request (walk ∷ walks) same = (best, record { usable = usable; first = first }, refl)
   where
     best : List PointEdge
-    best = fold (lesser request) walk walks
+    best = fold (lesser (walk_key request)) walk walks
 
-    is : Among (walk ∷ walks) best × NoneBefore request best (walk ∷ walks)
-    is = folded request walk walks
+    is : Among (walk ∷ walks) best × NoneBefore (walk_key request) best (walk ∷ walks)
+    is = folded (walk_key request) walk walks
 
     usable : IsUsable edges request best
     usable = found_usable edges request best (subst (λ ws. Among ws best) same is.0)

@@ -69,13 +69,6 @@ owed_fits graph request walk i owes falls hops lt carried are =
 
 -- ---- the walk that was found
 
-pub walk_numbered : (graph : Graph) → AreListed graph → (numbered : Ask) (walk : List Edge)
-    (node : ℕ) → walks.IsRest (edges graph) numbered node (walk) → AreNumbered graph walk
-walk_numbered graph listed numbered [] node joins = tt
-walk_numbered graph listed numbered (edge ∷ rest) node joins =
-    let is = listed.each edge joins.0.there in
-    ((is.from, is.to), walk_numbered graph listed numbered rest edge.to joins.1)
-
 pub length_hops : (request : Request) (walk : List PointEdge) → length (hops_of request walk) ≡ length walk
 length_hops request [] = refl
 length_hops request (edge ∷ rest) = ap suc (length_hops request rest)

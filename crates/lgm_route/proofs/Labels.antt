@@ -183,7 +183,7 @@ grows-trans graph request upper_bound a b c x y z h k =
 
 -- once all labels are settled, every rest is reached
 module _ (graph : Graph) (request : Ask) (low : Low) (upper_bound : ℕ) (labels : List Label) (found : Option Label)
-    (labelled : AreLabels graph request labels) (are_low : AreLow (edges graph) request low)
+    (short : request.hops ≤ 20) (labelled : AreLabels graph request labels) (are_low : AreLow (edges graph) request low)
     (settled : (i : ℕ) → i < length labels → IsSettled graph request low upper_bound labels found (label_at labels i)) where
   -- a rest with a label is pruned, or one that dominates it was relaxed
   abbrev Onward : ℕ → List Edge → Type 0
@@ -229,7 +229,7 @@ module _ (graph : Graph) (request : Ask) (low : Low) (upper_bound : ℕ) (labels
       let from = ap (λ n. number_at low.fees n) step.leaves in
       inl (omega (arith, h, rises, fees, penalty, from))
 
-  pub all_reached : (rest : List Edge) (node : ℕ) → IsRest (edges graph) request node rest → length rest ≤ 19
+  pub all_reached : (rest : List Edge) (node : ℕ) → IsRest (edges graph) request node rest → length rest < request.hops
       → delay request.limit rest + number_at low.delays node ≤ most_delay request.limit
       → Reaches graph request low upper_bound labels found node rest
   all_reached [] node joins few timely =
@@ -274,12 +274,12 @@ module _ (graph : Graph) (request : Ask) (low : Low) (upper_bound : ℕ) (labels
 
   -- so no usable walk is better than the best
   no_better_by : (walk : List Edge) (o : Option Label) → IsFound graph request labels upper_bound o
-      → length walk ≤ 20 → bound_of upper_bound o < cost (worth request walk) (length walk) →
+      → length walk ≤ request.hops → bound_of upper_bound o < cost (worth request walk) (length walk) →
       IsNoBetter graph request labels upper_bound o walk
   no_better_by walk None is few p = omega arith
   no_better_by walk (Some best) is few p =
       let w = (is.0).1 in
-      ((is.0).0, w, walk_less request (is.0).0 walk (omega (arith, w.long, w.few)) few (omega (arith, p, w.costs, w.long)))
+      ((is.0).0, w, walk_less request (is.0).0 walk (omega (arith, w.long, w.few, short)) (omega (arith, few, short)) (omega (arith, p, w.costs, w.long)))
 
   served_by : (edge : Edge) (a b : List Edge) (o : Option Label) → Dominates request a b → IsNoBetter graph
       request labels upper_bound o (edge ∷ a) → IsNoBetter graph request labels upper_bound o (edge ∷ b)

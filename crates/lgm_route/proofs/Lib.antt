@@ -12,7 +12,6 @@ pub mod PointWalkLaws
 pub mod HopLaws
 pub mod Visits
 pub mod ChoiceLaws
-pub mod ChoiceWithinLaws
-pub mod WithinLaws
 pub mod PreferredLaws
+pub mod FoundRoutes
 mod NarrowedEdgeLaws

@@ -1,7 +1,7 @@
 -- From numbered nodes to points: the walks over numbered edges are those over edges between points.
 use Rattle.std.proofs.Common.{◌≡◌, ◌⊎◌, ℕ, zero, suc, ◌+◌, ◌<◌, ◌≤◌, List, [], Option, inl, inr}
 use Rattle.std.proofs.Common.{◌∷◌, length, get_or, map, Some, None, refl, sym, ◌∙◌, ap, subst, arith}
-use Rattle.std.specs.Prelude.{Contains}
+use Rattle.std.specs.Prelude.{Contains, min}
 use Rattle.std.specs.List.{position}
 use Rattle.std.specs.Ordering.{nat_cmp}
 use Rattle.std.specs.Cmp.Lexicographic.{slice_cmp}
@@ -17,14 +17,13 @@ use Rattle.lgm_route.specs.declared.request.Request.{Request}
 use Rattle.lgm_route.specs.inner.Numbered.{Ask}
 use Rattle.lgm_route.specs.Routes as routes
 use Rattle.lgm_route.specs.inner.Numbered as walks
-use Rattle.lgm_route.specs.inner.Best.{IsBestBy, AreAlike, IsFoundFor, IsAnswerFor, free}
-use Rattle.lgm_route.specs.Answers.{refusal, IsAnswerBy}
-use Rattle.lgm_route.specs.Within.{IsAnswerWithin, IsAnswerWithinBy}
+use Rattle.lgm_route.specs.inner.Best.{AreAlike, AreNumbered, IsFree, free, ask_of}
+use Rattle.lgm_route.specs.Answers.{refusal, IsAnswer, IsAnswerBy, IsFoundOver}
+use Rattle.lgm_route.specs.declared.limits.RouteLimits.{RouteLimits}
 use Rattle.lgm_route.specs.Preferred as preferred
-use Rattle.lgm_route.specs.Preferred.{IsInTime, IsLeastBy, IsFoundBy, IsPreferred}
+use Rattle.lgm_route.specs.Preferred.{IsInTime, IsWithin, no_limits, IsLeastBy, IsFoundBy, IsPreferred, IsPreferredBy, IsPreferredAnswer}
 use Rattle.lgm_graph.specs.declared.route.Hop.{Hop}
 use Rattle.lgm_route.specs.declared.fault.RouteFault.{RouteFault}
-use Rattle.lgm_route.specs.declared.fault.RouteFault.TheVariants.{NoRoute, NoMemory}
 use Rattle.std.specs.Prelude.{Result, Ok, Err}
 
 -- ---- lists
@@ -66,18 +65,28 @@ ids_over points [] = refl
 ids_over points (by_number ∷ rest) = ap (λ l. by_number.scid ∷ l) (ids_over points rest)
 
 penalties_over : (graph : Graph) (terms : Option walks.Terms) (penalty : PointEdge → ℕ → ℕ) → AreAlike graph terms penalty → (amount : ℕ)
-    (walk : List Edge) → preferred.penalties penalty amount (over graph.points walk) ≡ walks.penalties terms amount walk
-penalties_over graph terms penalty alike amount [] = refl
-penalties_over graph terms penalty alike amount (by_number ∷ rest) =
-    let later = penalties_over graph terms penalty alike amount rest in
+    (walk : List Edge) → AreNumbered graph walk
+    → preferred.penalties penalty amount (over graph.points walk) ≡ walks.penalties terms amount walk
+penalties_over graph terms penalty alike amount [] are = refl
+penalties_over graph terms penalty alike amount (by_number ∷ rest) are =
+    let later = penalties_over graph terms penalty alike amount rest are.1 in
     let carried = ap (penalty (edge_between graph.points by_number)) (owed_over graph.points amount rest) in
-    omega (arith, later, carried, alike by_number (walks.owed amount rest))
+    omega (arith, later, carried, alike by_number (are.0).0 (walks.owed amount rest))
 
 worth_over : (graph : Graph) (request : Ask) (penalty : PointEdge → ℕ → ℕ) → AreAlike graph request.terms penalty
-    → (walk : List Edge) → preferred.worth penalty request.amount (over graph.points walk) ≡ walks.worth request walk
-worth_over graph request penalty alike [] = refl
-worth_over graph request penalty alike (by_number ∷ rest) =
-    omega (arith, owed_over graph.points request.amount rest, penalties_over graph request.terms penalty alike request.amount rest)
+    → (walk : List Edge) → AreNumbered graph walk
+    → preferred.worth penalty request.amount (over graph.points walk) ≡ walks.worth request walk
+worth_over graph request penalty alike [] are = refl
+worth_over graph request penalty alike (by_number ∷ rest) are =
+    omega (arith, owed_over graph.points request.amount rest, penalties_over graph request.terms penalty alike request.amount rest are.1)
+
+-- the nodes of a walk are numbered
+pub walk_numbered : (graph : Graph) → AreListed graph → (numbered : Ask) (walk : List Edge)
+    (node : ℕ) → walks.IsRest (edges graph) numbered node walk → AreNumbered graph walk
+walk_numbered graph listed numbered [] node joins = tt
+walk_numbered graph listed numbered (edge ∷ rest) node joins =
+    let is = listed.each edge joins.0.there in
+    ((is.from, is.to), walk_numbered graph listed numbered rest edge.to joins.1)
 
 abbrev key : Ask → List Edge → List ℕ
 key request walk = walks.worth request walk ∷ length walk ∷ walks.ids walk
@@ -86,9 +95,9 @@ abbrev key_over : (PointEdge → ℕ → ℕ) → ℕ → List PointEdge → Lis
 key_over penalty amount walk = preferred.worth penalty amount walk ∷ length walk ∷ routes.ids walk
 
 keys_same : (graph : Graph) (request : Ask) (penalty : PointEdge → ℕ → ℕ) → AreAlike graph request.terms penalty
-    → (walk : List Edge) → key_over penalty request.amount (over graph.points walk) ≡ key request walk
-keys_same graph request penalty alike walk =
-    rw (worth_over graph request penalty alike walk, length-map walk (edge_between graph.points), ids_over graph.points walk) refl
+    → (walk : List Edge) → AreNumbered graph walk → key_over penalty request.amount (over graph.points walk) ≡ key request walk
+keys_same graph request penalty alike walk are =
+    rw (worth_over graph request penalty alike walk are, length-map walk (edge_between graph.points), ids_over graph.points walk) refl
 
 -- ---- limits
 
@@ -113,72 +122,88 @@ time_back points None (by_number ∷ rest) h = omega (arith, no_delay rest)
 time_back points (Some limit) [] h = h
 time_back points (Some limit) (by_number ∷ rest) h = omega (arith, h, delay_over points limit rest)
 
--- what is found is the best walk
-pub found_none : (penalty : PointEdge → ℕ → ℕ) (limit : Option ℕ) (edges : List PointEdge) (request : Request)
-    → IsBestBy penalty limit edges request None → IsFoundBy penalty limit edges request (Err NoRoute)
-found_none penalty limit edges request none = (refl, none)
+-- ---- without penalties it is the walk that sends least
 
--- without penalties it is the walk that sends least
-no_penalties : (amount : ℕ) (walk : List PointEdge) → preferred.penalties free amount walk ≡ 0
-no_penalties amount [] = refl
-no_penalties amount (edge ∷ rest) = omega (arith, no_penalties amount rest)
+no_penalties : (penalty : PointEdge → ℕ → ℕ) → IsFree penalty → (amount : ℕ) (walk : List PointEdge)
+    → preferred.penalties penalty amount walk ≡ 0
+no_penalties penalty is amount [] = refl
+no_penalties penalty is amount (edge ∷ rest) =
+    omega (arith, no_penalties penalty is amount rest, is edge (routes.owed amount rest))
 
-free_worth : (amount : ℕ) (walk : List PointEdge) → routes.sent amount walk ≡ preferred.worth free amount walk
-free_worth amount [] = refl
-free_worth amount (edge ∷ rest) = omega (arith, no_penalties amount rest)
+free_worth : (penalty : PointEdge → ℕ → ℕ) → IsFree penalty → (amount : ℕ) (walk : List PointEdge)
+    → routes.sent amount walk ≡ preferred.worth penalty amount walk
+free_worth penalty is amount [] = refl
+free_worth penalty is amount (edge ∷ rest) = omega (arith, no_penalties penalty is amount rest)
 
-free_order : (request : Request) (walk other : List PointEdge) → routes.Precedes request walk other → IsPreferred free request walk other
-free_order request walk other h =
-    let left = ap (λ n. n ∷ length walk ∷ routes.ids walk) (free_worth request.amount walk) in
-    let right = ap (λ n. n ∷ length other ∷ routes.ids other) (free_worth request.amount other) in
-    sym (ap (λ k. slice_cmp nat_cmp k (routes.walk_key request other)) left
-    ∙ ap (slice_cmp nat_cmp (preferred.worth_key free request walk)) right) ∙ h
+free_key : (penalty : PointEdge → ℕ → ℕ) → IsFree penalty → (request : Request) (walk : List PointEdge)
+    → routes.walk_key request walk ≡ preferred.worth_key penalty request walk
+free_key penalty is request walk = ap (λ n. n ∷ length walk ∷ routes.ids walk) (free_worth penalty is request.amount walk)
 
-pub found_free : (limit : Option ℕ) (edges : List PointEdge) (request : Request) (found : Result (List Hop) RouteFault)
-    → IsFoundBy free limit edges request found → IsFoundFor limit edges request found
-found_free None edges request (Ok hops) is = (
-  is.0,
-  record { usable = is.1.usable; first = λ other able before. is.1.first other able tt (free_order request other is.0 before) },
-  is.2,
-)
-found_free (Some limit) edges request (Ok hops) is = (
-  is.0,
+-- the orders are the same
+pub free_order : (penalty : PointEdge → ℕ → ℕ) → IsFree penalty → (request : Request) (walk other : List PointEdge)
+    → slice_cmp nat_cmp (routes.walk_key request walk) (routes.walk_key request other)
+    ≡ slice_cmp nat_cmp (preferred.worth_key penalty request walk) (preferred.worth_key penalty request other)
+free_order penalty is request walk other =
+    ap (λ k. slice_cmp nat_cmp k (routes.walk_key request other)) (free_key penalty is request walk)
+    ∙ ap (slice_cmp nat_cmp (preferred.worth_key penalty request walk)) (free_key penalty is request other)
+
+-- every usable walk is within no limits
+pub within_none : (edges : List PointEdge) (request : Request) (walk : List PointEdge) → routes.IsUsable edges request walk
+    → IsWithin no_limits walk
+within_none edges request walk usable = record { short = usable.few; in_time = tt }
+
+pub found_free : (penalty : PointEdge → ℕ → ℕ) → IsFree penalty → (edges : List PointEdge) (request : Request)
+    (found : Result (List Hop) RouteFault) → IsFoundBy penalty no_limits edges request found → IsFoundOver edges request found
+found_free penalty is edges request (Ok hops) found = (
+  found.0,
   record {
-    usable = record { usable = is.1.usable; in_time = is.1.in_time };
-    first = λ other able before. is.1.first other able.usable able.in_time (free_order request other is.0 before);
+    usable = found.1.usable;
+    first = λ other able before. found.1.first other able (within_none edges request other able)
+        (sym (free_order penalty is request other found.0) ∙ before);
   },
-  is.2,
+  found.2,
 )
-found_free None edges request (Err fault) is = (is.0, λ walk able. is.1 walk able tt)
-found_free (Some limit) edges request (Err fault) is = (is.0, λ walk able. is.1 walk able.usable able.in_time)
+found_free penalty is edges request (Err fault) found =
+    (found.0, λ walk able. found.1 walk able (within_none edges request walk able))
 
-pub free_answer : {E : Type 0} (limit : Option ℕ) (edges : List PointEdge) (request : Request) (found : Result (List Hop) RouteFault)
-    → refusal request ≡ None → E ⊎ IsFoundBy free limit edges request found → E ⊎ IsAnswerFor limit edges request found
-free_answer limit edges request found allowed (inl e) = inl e
-free_answer None edges request found allowed (inr is) =
-    inr (subst (λ o. IsAnswerBy o edges request found) (sym allowed) (found_free None edges request found is))
-free_answer (Some limit) edges request found allowed (inr is) =
-    inr (subst (λ o. IsAnswerWithinBy o limit edges request found) (sym allowed) (found_free (Some limit) edges request found is))
+pub free_found : (penalty : PointEdge → ℕ → ℕ) → IsFree penalty → (edges : List PointEdge) (request : Request)
+    (found : Result (List Hop) RouteFault) → IsFoundOver edges request found → IsFoundBy penalty no_limits edges request found
+free_found penalty is edges request (Ok hops) found = (
+  found.0,
+  record {
+    usable = found.1.usable;
+    within = within_none edges request found.0 found.1.usable;
+    first = λ other able within before. found.1.first other able (free_order penalty is request other found.0 ∙ before);
+  },
+  found.2,
+)
+free_found penalty is edges request (Err fault) found = (found.0, λ walk able within. found.1 walk able)
 
-pub limited_ok : (limit : ℕ) (edges : List PointEdge) (request : Request) (found : Result (List Hop) RouteFault) (hops : List Hop)
-    → found ≡ Ok hops → (found ≡ Err NoMemory) ⊎ IsAnswerFor (Some limit) edges request found → IsAnswerWithin limit edges request (Ok hops)
-limited_ok limit edges request found hops same (inl e) = cc
-limited_ok limit edges request found hops same (inr is) = subst (IsAnswerWithin limit edges request) same is
+-- a call's answer
+pub free_answer : {E : Type 0} (edges : List PointEdge) (request : Request) (found : Result (List Hop) RouteFault)
+    → refusal request ≡ None → E ⊎ IsFoundBy free no_limits edges request found → E ⊎ IsAnswer edges request found
+free_answer edges request found allowed (inl e) = inl e
+free_answer edges request found allowed (inr is) =
+    inr (subst (λ o. IsAnswerBy o edges request found) (sym allowed)
+    (found_free free (λ edge amount. refl) edges request found is))
 
-pub limited_err : (limit : ℕ) (edges : List PointEdge) (request : Request) (found : Result (List Hop) RouteFault) (fault : RouteFault)
-    → found ≡ Err fault → (found ≡ Err NoMemory) ⊎ IsAnswerFor (Some limit) edges request found
-    → (fault ≡ NoMemory) ⊎ IsAnswerWithin limit edges request (Err fault)
-limited_err limit edges request found fault same (inl e) = inl cc
-limited_err limit edges request found fault same (inr is) = inr (subst (IsAnswerWithin limit edges request) same is)
+-- a fault before a search
+pub free_fault : (edges : List PointEdge) (request : Request) (fault : RouteFault)
+    → IsPreferredAnswer free no_limits edges request (Err fault) → IsAnswer edges request (Err fault)
+free_fault edges request fault is = by (refusal request) is
+  where
+    by : (o : Option RouteFault) → IsPreferredBy o free no_limits edges request (Err fault) → IsAnswerBy o edges request (Err fault)
+    by (Some other) is = is
+    by None is = found_free free (λ edge amount. refl) edges request (Err fault) is
 
 -- ---- walks
 
 module _ (graph : Graph) (listed : AreListed graph) (request : Request) (payer payee : ℕ)
     (payer_is : position (is_point request.payer) graph.points ≡ Some payer)
-    (payee_is : position (is_point request.payee) graph.points ≡ Some payee) (limit : Option ℕ)
+    (payee_is : position (is_point request.payee) graph.points ≡ Some payee) (limits : RouteLimits)
     (terms : Option walks.Terms) (penalty : PointEdge → ℕ → ℕ) (alike : AreAlike graph terms penalty) where
   abbrev numbered : Ask
-  numbered = record { payer = payer; payee = payee; amount = request.amount; limit = limit; terms = terms }
+  numbered = ask_of payer payee request limits terms
 
   abbrev point_at : ℕ → Point
   point_at number = get_or graph.points number no_point
@@ -237,40 +262,64 @@ module _ (graph : Graph) (listed : AreListed graph) (request : Request) (payer p
         ),
       )
 
-  usable_back : (walk : List PointEdge) → routes.IsUsable (point_edges graph) request walk → IsInTime limit walk
+  usable_back : (walk : List PointEdge) → routes.IsUsable (point_edges graph) request walk → IsWithin limits walk
       → (back : List Edge) × (over graph.points back ≡ walk) × walks.IsUsable (edges graph) numbered back
-  usable_back walk usable timely =
+  usable_back walk usable within =
       let back = rest_back walk request.payer payer (number_some graph.points request.payer payer payer_is).0 usable.joins in
-      let long : length back.0 ≡ length walk = sym (length-map back.0 (edge_between graph.points)) ∙ ap length back.1 in
-      (back.0, back.1, record { some = let h = usable.some in omega arith; few = let h = usable.few in omega arith; joins = back.2; in_time = time_back graph.points limit back.0 (subst (IsInTime limit) (sym back.1) timely) })
+      let long : length back.0 ≡ length walk = sym (length-map back.0 (edge_between graph.points)) ∙ ap length back.1 in (
+        back.0,
+        back.1,
+        record {
+          some = omega (arith, usable.some, long);
+          few = omega (arith, usable.few, within.short, long);
+          joins = back.2;
+          in_time = time_back graph.points limits.most_delay back.0 (subst (IsInTime limits.most_delay) (sym back.1) within.in_time);
+        },
+      )
 
   pub none_over : ((walk : List Edge) → walks.IsUsable (edges graph) numbered walk → ⊥) → (walk : List PointEdge)
-      → routes.IsUsable (point_edges graph) request walk → IsInTime limit walk → ⊥
-  none_over none walk usable timely = let back = usable_back walk usable timely in none back.0 back.2
+      → routes.IsUsable (point_edges graph) request walk → IsWithin limits walk → ⊥
+  none_over none walk usable within = let back = usable_back walk usable within in none back.0 back.2
 
-  pub least_over : (walk : List Edge) → walks.IsLeast (edges graph) numbered walk → IsLeastBy penalty limit (point_edges graph) request (over graph.points walk)
-  least_over walk least =
+  pub usable_over : (walk : List Edge) → walks.IsUsable (edges graph) numbered walk
+      → routes.IsUsable (point_edges graph) request (over graph.points walk)
+  usable_over walk usable =
       let long = length-map walk (edge_between graph.points) in
       record {
-        usable = record {
-          some = let h = least.usable.some in omega arith;
-          few = let h = least.usable.few in omega arith;
-          joins =
-              subst (λ p. routes.IsRest (point_edges graph) request p (over graph.points walk))
-              (stands request.payer payer payer_is) (rest_over walk payer least.usable.joins);
-        };
-        in_time = time_over graph.points limit walk least.usable.in_time;
-        first = λ other usable timely before. first (usable_back other usable timely) before;
+        some = omega (arith, usable.some, long);
+        few = omega (arith, usable.few, long);
+        joins =
+            subst (λ p. routes.IsRest (point_edges graph) request p (over graph.points walk))
+            (stands request.payer payer payer_is) (rest_over walk payer usable.joins);
+      }
+
+  pub within_over : (walk : List Edge) → walks.IsUsable (edges graph) numbered walk → IsWithin limits (over graph.points walk)
+  within_over walk usable =
+      record {
+        short = omega (arith, usable.few, length-map walk (edge_between graph.points));
+        in_time = time_over graph.points limits.most_delay walk usable.in_time;
+      }
+
+  pub least_over : (walk : List Edge) → walks.IsLeast (edges graph) numbered walk
+      → IsLeastBy penalty limits (point_edges graph) request (over graph.points walk)
+  least_over walk least =
+      record {
+        usable = usable_over walk least.usable;
+        within = within_over walk least.usable;
+        first = λ other usable within before. first (usable_back other usable within) before;
       }
     where
+      own : (w : List Edge) → walks.IsUsable (edges graph) numbered w
+          → key numbered w ≡ key_over penalty request.amount (over graph.points w)
+      own w usable = sym (keys_same graph numbered penalty alike w (walk_numbered graph listed numbered w payer usable.joins))
+
       first : {other : List PointEdge} → (back : List Edge) × (over graph.points back ≡ other) × walks.IsUsable
           (edges graph) numbered back → IsPreferred penalty request other (over graph.points walk) → ⊥
       first {other} back before =
           let left : key numbered back.0 ≡ key_over penalty request.amount other =
-          sym (keys_same graph numbered penalty alike back.0) ∙ ap (key_over penalty request.amount) back.1 in
-          let right : key numbered walk ≡ key_over penalty request.amount (over graph.points walk) = sym (keys_same graph numbered penalty alike walk) in
+          own back.0 back.2 ∙ ap (key_over penalty request.amount) back.1 in
           least.first back.0 back.2 (ap (λ k. slice_cmp nat_cmp k (key numbered walk)) left
-          ∙ ap (slice_cmp nat_cmp (key_over penalty request.amount other)) right ∙ before)
+          ∙ ap (slice_cmp nat_cmp (key_over penalty request.amount other)) (own walk least.usable) ∙ before)
 
 -- ---- ends without a number
 

@@ -1,90 +1,238 @@
--- The answers of preferred routes.
-use Rattle.std.proofs.Common.{◌≡◌, ◌⊎◌, ℕ, ◌*◌, ◌^◌, ◌≤◌, min, List, [], Option, Some, None, refl, ap, subst, inl, inr, arith}
-use Rattle.std.specs.Prelude.{Result, Ok, Err}
+-- Exhaustive search finds the best walk by penalties, within limits, which is unique.
+use Rattle.std.proofs.Common.{◌≡◌, ◌≢◌, ◌⊎◌, ℕ, ◌+◌, ◌-◌, ◌*◌, ◌/◌, ◌^◌, ◌≤◌, inl, inr, min, Bool, true, false, List, [], ◌∷◌, length, refl, sym, ◌∙◌, ap, subst, arith}
+use Rattle.std.proofs.lemmas.Bool.Decides.{nat_tests}
+use Rattle.std.specs.Prelude.{nat_le, nat_eq, ◌&&◌, Option, Some, None, Result, Ok, Err}
+use Rattle.std.specs.List.{fold, Contains}
 use Rattle.std.specs.List.Sorted.{IsPermutation}
-use Rattle.lgm_graph.specs.Edges.{PointEdge}
-use Rattle.lgm_graph.specs.Graph.{Graph}
+use Rattle.std.proofs.Math.Nat.{min-le_left}
+use Rattle.std.proofs.lemmas.Bool.{and_parts}
+use Rattle.lgm_graph.specs.Edges.{PointEdge, AreKeyed}
+use Rattle.lgm_graph.specs.Estimates.{Entries, estimate_of}
 use Rattle.lgm_graph.specs.declared.route.Hop.{Hop}
+use Rattle.lgm_graph.proofs.Members.{Among, Among-passes, Among-passed}
 use Rattle.lgm_route.specs.declared.request.Request.{Request}
+use Rattle.lgm_route.specs.declared.limits.RouteLimits.{RouteLimits}
 use Rattle.lgm_route.specs.declared.preferences.Preferences.{Preferences}
 use Rattle.lgm_route.specs.declared.fault.RouteFault.{RouteFault}
 use Rattle.lgm_route.specs.declared.fault.RouteFault.TheVariants.{NoMemory}
-use Rattle.lgm_route.specs.declared.within.LimitedFault.{LimitedFault}
-use Rattle.lgm_route.specs.declared.within.LimitedFault.TheVariants.{Fault, Undecided}
+use Rattle.lgm_route.specs.declared.found.Found.{Found}
+use Rattle.lgm_route.specs.declared.found.SearchFault.{SearchFault}
+use Rattle.lgm_route.specs.declared.found.SearchFault.TheVariants.{Fault, Undecided}
+use Rattle.lgm_route.specs.Routes.{hops_of, IsUsable}
 use Rattle.lgm_route.specs.Answers.{refusal, IsAnswerBy}
-use Rattle.lgm_route.specs.Preferred.{IsFoundBy, IsPreferredAnswer, penalty_at}
-use Rattle.lgm_route.specs.Within.{IsAnswerWithinBy}
-use Rattle.lgm_route.specs.inner.Best.{AreAlike, IsAnswerFor}
-use Rattle.lgm_route.specs.inner.Numbered.{Ask, Terms, IsSpent}
-use Rattle.lgm_route.proofs.Rests.{penalties_light}
-use Rattle.lgm_route.proofs.ChoiceLaws.{HaveSame, same-permuted, usable_over}
+use Rattle.lgm_route.specs.Odds.{odds}
+use Rattle.lgm_route.specs.Choice.{usable_walks, lesser, least_of, found_by, answer_by, answer_of}
+use Rattle.lgm_route.specs.Preferred.{delay, IsInTime, IsWithin, no_limits, penalty_at, worth_key, IsPreferred, IsLeastBy, IsFoundBy}
+use Rattle.lgm_route.specs.Preferred.{IsPreferredBy, IsPreferredAnswer, is_in_time, is_within, walks_within, preferred_walk, preferred_answer}
+use Rattle.lgm_route.specs.Preferred.{IsSomeRoute, IsRouteBy, IsBeyond, no_preferences}
+use Rattle.lgm_route.specs.inner.Best.{IsFree, free}
+use Rattle.lgm_route.proofs.Orders.{NotAfter-excludes}
+use Rattle.lgm_route.proofs.Rests.{penalty_at-rises}
+use Rattle.lgm_route.proofs.PointWalkLaws.{free_found}
+use Rattle.lgm_route.proofs.Visits.{Rises, preferred-unique}
+use Rattle.lgm_route.proofs.ChoiceLaws.{le_true, true_le, usable_found, found_usable, folded, NoneBefore, point_apart, tried, HaveSame, same-permuted, usable_over}
 
--- the penalties of a rest fit 64 bits
-pub spent_small : (terms : Option Terms) (spent : ℕ) → IsSpent terms spent → spent ≤ 20 * 2 ^ 40
-spent_small terms spent is =
-    let request : Ask = record { payer = 0; payee = 0; amount = is.0; limit = None; terms = terms } in
-    omega (arith, penalties_light request is.1, is.2, is.3)
+-- ---- the walks within the limits
 
--- the penalties of numbered edges are those of the edges between points
-pub alike : (graph : Graph) (preferences : Preferences)
-    → AreAlike graph (Some (record { failure = preferences.failure_msat; hop = preferences.hop_msat; known = [] })) (penalty_at preferences)
-alike graph preferences edge amount =
-    ap (λ n. min (2 ^ 40) n) (omega arith)
+time_true : (most : Option ℕ) (walk : List PointEdge) → IsInTime most walk → is_in_time most walk ≡ true
+time_true None walk h = refl
+time_true (Some most) walk h = le_true (delay walk) most h
 
--- a request without numbers is refused, or no walk is usable
-pub fault_found : (penalty : PointEdge → ℕ → ℕ) (limit : Option ℕ) (edges : List PointEdge) (request : Request) (fault : RouteFault)
-    → IsAnswerFor limit edges request (Err fault) → (refusal request ≡ Some fault) ⊎ IsFoundBy penalty limit edges request (Err fault)
-fault_found penalty None edges request fault is = by (refusal request) refl is
+true_time : (most : Option ℕ) (walk : List PointEdge) → is_in_time most walk ≡ true → IsInTime most walk
+true_time None walk h = tt
+true_time (Some most) walk h = true_le (delay walk) most h
+
+pub within_true : (limits : RouteLimits) (walk : List PointEdge) → IsWithin limits walk → is_within limits walk ≡ true
+within_true limits walk h =
+    let short = le_true (length walk) limits.most_hops h.short in
+    rw (short, time_true limits.most_delay walk h.in_time) refl
+
+pub true_within : (limits : RouteLimits) (walk : List PointEdge) → is_within limits walk ≡ true → IsWithin limits walk
+true_within limits walk h =
+    let p = and_parts (nat_le (length walk) limits.most_hops) (is_in_time limits.most_delay walk) h in
+    record { short = true_le (length walk) limits.most_hops p.0; in_time = true_time limits.most_delay walk p.1 }
+
+within_found : (limits : RouteLimits) (edges : List PointEdge) (request : Request) (walk : List PointEdge) → IsUsable edges request walk
+    → IsWithin limits walk → Among (walks_within limits edges request) walk
+within_found limits edges request walk usable within =
+    Among-passes (is_within limits) (usable_walks edges request) walk (usable_found edges request walk usable)
+    (within_true limits walk within)
+
+found_within : (limits : RouteLimits) (edges : List PointEdge) (request : Request) (walk : List PointEdge)
+    → Among (walks_within limits edges request) walk → IsUsable edges request walk × IsWithin limits walk
+found_within limits edges request walk there =
+    let passed = Among-passed (is_within limits) (usable_walks edges request) walk there in
+    (found_usable edges request walk passed.0, true_within limits walk passed.1)
+
+-- ---- the best of them
+
+preferred_found : (penalty : PointEdge → ℕ → ℕ) (limits : RouteLimits) (edges : List PointEdge) (request : Request)
+    (walks : List (List PointEdge)) → walks ≡ walks_within limits edges request
+    → IsFoundBy penalty limits edges request (found_by request (least_of (worth_key penalty request) walks))
+preferred_found penalty limits edges request [] same =
+    (refl, λ walk usable within. subst (λ ws. Among ws walk) (sym same) (within_found limits edges request walk usable within))
+preferred_found penalty limits edges request (walk ∷ walks) same =
+    (best, record { usable = able.0; within = able.1; first = first }, refl)
   where
-    by : (o : Option RouteFault) → refusal request ≡ o → IsAnswerBy o edges request (Err fault)
-        → (refusal request ≡ Some fault) ⊎ IsFoundBy penalty None edges request (Err fault)
-    by (Some other) same is = inl cc
-    by None same is = inr (is.0, λ walk able timely. is.1 walk able)
-fault_found penalty (Some most) edges request fault is = by (refusal request) refl is
-  where
-    by : (o : Option RouteFault) → refusal request ≡ o → IsAnswerWithinBy o most edges request (Err fault)
-        → (refusal request ≡ Some fault) ⊎ IsFoundBy penalty (Some most) edges request (Err fault)
-    by (Some other) same is = inl cc
-    by None same is = inr (is.0, λ walk able timely. is.1 walk (record { usable = able; in_time = timely }))
+    best : List PointEdge
+    best = fold (lesser (worth_key penalty request)) walk walks
 
--- the same over the same edges in another order
-found_over : (penalty : PointEdge → ℕ → ℕ) (limit : Option ℕ) (edges others : List PointEdge) (request : Request)
-    (found : Result (List Hop) RouteFault) → HaveSame edges others → IsFoundBy penalty limit edges request found
-    → IsFoundBy penalty limit others request found
-found_over penalty limit edges others request (Ok hops) same is = (
+    is : Among (walk ∷ walks) best × NoneBefore (worth_key penalty request) best (walk ∷ walks)
+    is = folded (worth_key penalty request) walk walks
+
+    able : IsUsable edges request best × IsWithin limits best
+    able = found_within limits edges request best (subst (λ ws. Among ws best) same is.0)
+
+    first : (other : List PointEdge) → IsUsable edges request other → IsWithin limits other → IsPreferred penalty request other best → ⊥
+    first other usable within before =
+        NotAfter-excludes (worth_key penalty request best) (worth_key penalty request other) (is.1 other
+        (subst (λ ws. Among ws other) (sym same) (within_found limits edges request other usable within))) before
+
+-- exhaustive search returns an answer
+pub preferred_tried : (penalty : PointEdge → ℕ → ℕ) (limits : RouteLimits) (edges : List PointEdge) (request : Request)
+    → IsPreferredAnswer penalty limits edges request (preferred_answer penalty limits edges request)
+unfolding preferred_answer preferred_walk
+preferred_tried penalty limits edges request = by (refusal request)
+  where
+    by : (refused : Option RouteFault) → IsPreferredBy refused penalty limits edges request
+        (answer_by refused request (preferred_walk penalty limits edges request))
+    by (Some fault) = refl
+    by None = preferred_found penalty limits edges request (walks_within limits edges request) refl
+
+both_found : (penalty : PointEdge → ℕ → ℕ) → Rises penalty → (limits : RouteLimits) (edges : List PointEdge) (request : Request)
+    (answer other : Result (List Hop) RouteFault) → AreKeyed edges → request.payer ≢ request.payee →
+    IsFoundBy penalty limits edges request answer → IsFoundBy penalty limits edges request other → answer ≡ other
+both_found penalty rises limits edges request (Ok hops) (Ok hops') keyed apart found also =
+    let same = preferred-unique penalty rises limits edges request found.0 also.0 keyed apart found.1 also.1 in
+    ap Ok (found.2 ∙ ap (hops_of request) same ∙ sym also.2)
+both_found penalty rises limits edges request (Ok hops) (Err fault) keyed apart found also =
+    absurd (also.1 found.0 found.1.usable found.1.within)
+both_found penalty rises limits edges request (Err fault) (Ok hops) keyed apart found also =
+    absurd (found.1 also.0 also.1.usable also.1.within)
+both_found penalty rises limits edges request (Err fault) (Err fault') keyed apart found also = ap Err (found.0 ∙ sym also.0)
+
+-- a request has one answer
+answers-unique : (penalty : PointEdge → ℕ → ℕ) → Rises penalty → (limits : RouteLimits) (edges : List PointEdge) (request : Request)
+    (answer other : Result (List Hop) RouteFault) → AreKeyed edges → IsPreferredAnswer penalty limits edges request answer
+    → IsPreferredAnswer penalty limits edges request other → answer ≡ other
+answers-unique penalty rises limits edges request answer other keyed is also = by (refusal request) refl is also
+  where
+    by : (refused : Option RouteFault) → refusal request ≡ refused → IsPreferredBy refused penalty limits edges request answer
+        → IsPreferredBy refused penalty limits edges request other → answer ≡ other
+    by (Some fault) e is also = is ∙ sym also
+    by None e is also = both_found penalty rises limits edges request answer other keyed (point_apart request e) is also
+
+pub preferred-one : (preferences : Preferences) (known : Entries) (limits : RouteLimits) (edges : List PointEdge) (request : Request)
+    (answer : Result (List Hop) RouteFault) → AreKeyed edges
+    → IsPreferredAnswer (penalty_at preferences known) limits edges request answer
+    → answer ≡ preferred_answer (penalty_at preferences known) limits edges request
+preferred-one preferences known limits edges request answer keyed is =
+    answers-unique (penalty_at preferences known) (penalty_at-rises preferences known) limits edges request answer
+    (preferred_answer (penalty_at preferences known) limits edges request) keyed is
+    (preferred_tried (penalty_at preferences known) limits edges request)
+
+-- ---- without preferences
+
+same_zero : (n : ℕ) → nat_eq n 0 ≡ true → n ≡ 0
+same_zero n h = grind (arith, nat_tests)
+
+pub free_of : (preferences : Preferences) (known : Entries)
+    → (nat_eq preferences.failure_msat 0 && nat_eq preferences.hop_msat 0) ≡ true → length known ≡ 0 → IsFree (penalty_at preferences known)
+free_of preferences (entry ∷ known) none few edge amount = absurd (omega arith)
+free_of preferences [] none few edge amount =
+    let p = and_parts (nat_eq preferences.failure_msat 0) (nat_eq preferences.hop_msat 0) none in
+    let failure = same_zero preferences.failure_msat p.0 in
+    let hop = same_zero preferences.hop_msat p.1 in
+    let room = min edge.max (2 ^ 64 - 1) - amount + 1 in
+    omega (arith, failure, hop, min-le_left (100 * preferences.failure_msat) (preferences.failure_msat * (amount - 0) / room))
+
+-- a payer that prefers nothing and knows of no edge has no penalties
+pub nothing_free : IsFree (penalty_at no_preferences [])
+nothing_free edge amount =
+    let none : odds 0 0 (min edge.max (2 ^ 64 - 1)) amount ≤ 0 = min-le_left 0 (0 * (amount - 0) / (min edge.max (2 ^ 64 - 1) - amount + 1)) in
+    omega (arith, none, min-le_left (2 ^ 40) (0 + 0 + odds 0 0 (min edge.max (2 ^ 64 - 1)) amount))
+
+pub nothing : (edges : List PointEdge) (request : Request) → AreKeyed edges
+    → preferred_answer (penalty_at no_preferences []) no_limits edges request ≡ answer_of edges request
+nothing edges request keyed =
+    sym (preferred-one no_preferences [] no_limits edges request (answer_of edges request) keyed (by (refusal request) (tried edges request)))
+  where
+    by : (refused : Option RouteFault) → IsAnswerBy refused edges request (answer_of edges request)
+        → IsPreferredBy refused (penalty_at no_preferences []) no_limits edges request (answer_of edges request)
+    by (Some fault) is = is
+    by None is = free_found (penalty_at no_preferences []) nothing_free edges request (answer_of edges request) is
+
+-- ---- over the same edges in another order
+
+found_over : (penalty : PointEdge → ℕ → ℕ) (limits : RouteLimits) (edges others : List PointEdge) (request : Request)
+    (found : Result (List Hop) RouteFault) → HaveSame edges others → IsFoundBy penalty limits edges request found
+    → IsFoundBy penalty limits others request found
+found_over penalty limits edges others request (Ok hops) same is = (
   is.0,
   record {
     usable = usable_over edges others request is.0 (λ edge. (same edge).0) is.1.usable;
-    in_time = is.1.in_time;
-    first = λ other able timely. is.1.first other (usable_over others edges request other (λ edge. (same edge).1) able) timely;
+    within = is.1.within;
+    first = λ other able within. is.1.first other (usable_over others edges request other (λ edge. (same edge).1) able) within;
   },
   is.2,
 )
-found_over penalty limit edges others request (Err fault) same is =
-    (is.0, λ walk able timely. is.1 walk (usable_over others edges request walk (λ edge. (same edge).1) able) timely)
+found_over penalty limits edges others request (Err fault) same is =
+    (is.0, λ walk able. is.1 walk (usable_over others edges request walk (λ edge. (same edge).1) able))
 
-pub preferred_reordered : (penalty : PointEdge → ℕ → ℕ) (limit : Option ℕ) (edges others : List PointEdge) (request : Request)
-    (answer : Result (List Hop) LimitedFault) → IsPermutation others edges → IsPreferredAnswer penalty limit edges request answer
-    → IsPreferredAnswer penalty limit others request answer
-preferred_reordered penalty limit edges others request (Ok hops) order is =
-    (is.0, found_over penalty limit edges others request (Ok hops) (same-permuted edges others order) is.1)
-preferred_reordered penalty limit edges others request (Err Undecided) order is = tt
-preferred_reordered penalty limit edges others request (Err (Fault fault)) order (inl e) = inl e
-preferred_reordered penalty limit edges others request (Err (Fault fault)) order (inr (inl e)) = inr (inl e)
-preferred_reordered penalty limit edges others request (Err (Fault fault)) order (inr (inr is)) =
-    inr (inr (found_over penalty limit edges others request (Err fault) (same-permuted edges others order) is))
+answer_over : (penalty : PointEdge → ℕ → ℕ) (limits : RouteLimits) (edges others : List PointEdge) (request : Request)
+    (answer : Result (List Hop) RouteFault) → HaveSame edges others → IsPreferredAnswer penalty limits edges request answer
+    → IsPreferredAnswer penalty limits others request answer
+answer_over penalty limits edges others request answer same is = by (refusal request) is
+  where
+    by : (refused : Option RouteFault) → IsPreferredBy refused penalty limits edges request answer
+        → IsPreferredBy refused penalty limits others request answer
+    by (Some fault) is = is
+    by None is = found_over penalty limits edges others request answer same is
 
--- what a call returns of what it found
-pub preferred_ok : (penalty : PointEdge → ℕ → ℕ) (limit : Option ℕ) (edges : List PointEdge) (request : Request)
-    (found : Result (List Hop) RouteFault) (hops : List Hop) → refusal request ≡ None → found ≡ Ok hops
-    → (found ≡ Err NoMemory) ⊎ IsFoundBy penalty limit edges request found → IsPreferredAnswer penalty limit edges request (Ok hops)
-preferred_ok penalty limit edges request found hops allowed same (inl e) = cc
-preferred_ok penalty limit edges request found hops allowed same (inr is) =
-    (allowed, subst (IsFoundBy penalty limit edges request) same is)
+-- what a call returns over the edges of a graph is what it returns over those of the rows
+pub route_reordered : (preferences : Preferences) (known : Entries) (limits : RouteLimits) (edges others : List PointEdge) (request : Request)
+    (result : Result Found SearchFault) → AreKeyed others → IsPermutation others edges
+    → IsRouteBy (IsPreferredAnswer (penalty_at preferences known) limits edges request) limits edges request result
+    → IsRouteBy (λ answer. answer ≡ preferred_answer (penalty_at preferences known) limits others request) limits others request result
+route_reordered preferences known limits edges others request result keyed order is = by result is
+  where
+    same : HaveSame edges others
+    same = same-permuted edges others order
 
-pub preferred_err : (penalty : PointEdge → ℕ → ℕ) (limit : Option ℕ) (edges : List PointEdge) (request : Request)
-    (found : Result (List Hop) RouteFault) (fault : RouteFault) → found ≡ Err fault
-    → (found ≡ Err NoMemory) ⊎ IsFoundBy penalty limit edges request found → IsPreferredAnswer penalty limit edges request (Err (Fault fault))
-preferred_err penalty limit edges request found fault same (inl e) = inl cc
-preferred_err penalty limit edges request found fault same (inr is) =
-    inr (inr (subst (IsFoundBy penalty limit edges request) same is))
+    one : (answer : Result (List Hop) RouteFault) → IsPreferredAnswer (penalty_at preferences known) limits edges request answer
+        → answer ≡ preferred_answer (penalty_at preferences known) limits others request
+    one answer is =
+        preferred-one preferences known limits others request answer keyed
+        (answer_over (penalty_at preferences known) limits edges others request answer same is)
+
+    by : (result : Result Found SearchFault) → IsRouteBy (IsPreferredAnswer (penalty_at preferences known) limits edges request) limits edges request result
+        → IsRouteBy (λ answer. answer ≡ preferred_answer (penalty_at preferences known) limits others request) limits others request result
+    by (Ok found) is = (
+      λ best. one (Ok found.route) (is.0 best),
+      ((is.1).0, usable_over edges others request (is.1).0 (λ edge. (same edge).0) (is.1).1, (is.1).2, (is.1).3),
+      is.2,
+    )
+    by (Err Undecided) is = is
+    by (Err (Fault fault)) (inl e) = inl e
+    by (Err (Fault fault)) (inr is) = inr (one (Err fault) is)
+
+-- and a refused request
+pub route_refused : (preferences : Preferences) (known : Entries) (limits : RouteLimits) (edges : List PointEdge) (request : Request)
+    (fault : RouteFault) → AreKeyed edges → refusal request ≡ Some fault
+    → Err fault ≡ preferred_answer (penalty_at preferences known) limits edges request
+route_refused preferences known limits edges request fault keyed refused =
+    preferred-one preferences known limits edges request (Err fault) keyed (rw refused refl)
+
+pub beyond_reordered : (limits : RouteLimits) (edges others : List PointEdge) (request : Request) → IsPermutation others edges
+    → IsBeyond limits edges request → IsBeyond limits others request
+beyond_reordered limits edges others request order is = (
+  is.0,
+  record {
+    usable = usable_over edges others request is.0 (λ edge. (same edge).0) is.1.usable;
+    first = λ other able. is.1.first other (usable_over others edges request other (λ edge. (same edge).1) able);
+  },
+  is.2,
+)
+  where
+    same : HaveSame edges others
+    same = same-permuted edges others order

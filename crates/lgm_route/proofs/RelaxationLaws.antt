@@ -28,7 +28,7 @@ module _ (graph : Graph) (request : Ask) (labels : List Label) (i : ℕ) (edge :
   spells : Spells graph labels new (edge ∷ rest)
   spells = (led.over, led.begins, subst (λ n. Spells graph labels (label_at labels n) rest) (sym led.parent) is.spells)
 
-  pub led_walk : edge.from ≡ request.payer → (label_at labels i).hops ≤ 19 → IsWalk graph request labels new (edge ∷ rest)
+  pub led_walk : edge.from ≡ request.payer → (label_at labels i).hops < request.hops → IsWalk graph request labels new (edge ∷ rest)
   led_walk from few =
       record {
         spells = spells;

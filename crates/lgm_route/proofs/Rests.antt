@@ -1,12 +1,18 @@
 -- Rests of walks: their amounts, and which dominates which.
 use Rattle.std.proofs.Common.{◌≡◌, ◌⊎◌, ℕ, suc, ◌+◌, ◌-◌, ◌*◌, ◌/◌, ◌^◌, min, Option, Some, None, ◌<◌, ◌≤◌, List, [], ◌∷◌, length, drop, zero, refl, ap, inl, inr, arith}
+use Rattle.std.specs.Prelude.{slice_get}
 use Rattle.std.proofs.Math.Nat.{mul-le-mul_right, mul-le-mul_left, div-mul-le_self, min-le_left}
 use Rattle.std.proofs.lemmas.Nat.{le-div}
 use Rattle.lgm_graph.specs.Fee.{fee_of}
 use Rattle.lgm_graph.specs.declared.edge.Edge.{Edge}
-use Rattle.lgm_route.specs.inner.Numbered.{Ask, Terms, Known, penalty_of, penalty_by, known_of}
-use Rattle.lgm_route.specs.Odds.{odds}
-use Rattle.lgm_route.specs.inner.Numbered.{owed, sent, penalties, weight, worth, ids, IsStep}
+use Rattle.lgm_graph.specs.Edges.{PointEdge}
+use Rattle.lgm_graph.specs.Estimates.{Entries, estimate_of}
+use Rattle.lgm_graph.specs.declared.estimate.Estimate.{Estimate}
+use Rattle.lgm_route.specs.declared.preferences.Preferences.{Preferences}
+use Rattle.lgm_route.specs.inner.Numbered.{Ask, Terms, penalty_of, known_from}
+use Rattle.lgm_route.specs.Odds.{odds, penalty_by}
+use Rattle.lgm_route.specs.Preferred.{penalty_at}
+use Rattle.lgm_route.specs.inner.Numbered.{owed, sent, penalties, weight, worth, ids, IsStep, IsSpent}
 use Rattle.lgm_route.specs.inner.Searching.{cost, NotAfter, rest_key, walk_key, Dominates, AreCarried}
 use Rattle.lgm_route.proofs.Orders.{NotAfter-refl, NotAfter-trans, NotAfter-split, NotAfter-join, NotAfter-heads}
 
@@ -29,19 +35,30 @@ odds-rises failure least most x y h =
     le-div q (failure * (y - least)) (most - y + 1) (omega arith) (omega (arith, room, back, over)) in
     min-le-min (100 * failure) q (failure * (y - least) / (most - y + 1)) more
 
-penalty_by-rises : (terms : Terms) (known : Known) (edge : Edge) (x y : ℕ) → x ≤ y → penalty_by terms known edge x ≤ penalty_by terms known edge y
-penalty_by-rises terms known edge x y h =
-    let more = odds-rises terms.failure known.least edge.max x y h in
-    min-le-min (2 ^ 40) (terms.hop + known.flat + odds terms.failure known.least edge.max x)
-    (terms.hop + known.flat + odds terms.failure known.least edge.max y) (omega (arith, more))
+penalty_by-rises : (failure hop : ℕ) (estimate : Estimate) (max x y : ℕ) → x ≤ y
+    → penalty_by failure hop estimate max x ≤ penalty_by failure hop estimate max y
+penalty_by-rises failure hop estimate max x y h =
+    let most = min max estimate.most in
+    let more = odds-rises failure estimate.least most x y h in
+    min-le-min (2 ^ 40) (hop + estimate.penalty + odds failure estimate.least most x)
+    (hop + estimate.penalty + odds failure estimate.least most y) (omega (arith, more))
+
+-- a greater amount has no less penalty
+pub penalty_at-rises : (preferences : Preferences) (known : Entries) (edge : PointEdge) (x y : ℕ) → x ≤ y
+    → penalty_at preferences known edge x ≤ penalty_at preferences known edge y
+penalty_at-rises preferences known edge x y h =
+    penalty_by-rises preferences.failure_msat preferences.hop_msat (estimate_of known edge.scid edge.from) edge.max x y h
 
 pub penalty-rises : (terms : Option Terms) (edge : Edge) (x y : ℕ) → x ≤ y → penalty_of terms edge x ≤ penalty_of terms edge y
 penalty-rises None edge x y h = omega arith
-penalty-rises (Some terms) edge x y h = penalty_by-rises terms (known_of terms.known edge) edge x y h
+penalty-rises (Some terms) edge x y h =
+    penalty_by-rises terms.failure terms.hop (known_from terms.known edge.scid (slice_get terms.points edge.from)) edge.max x y h
 
 pub penalty-light : (terms : Option Terms) (edge : Edge) (x : ℕ) → penalty_of terms edge x ≤ 2 ^ 40
 penalty-light None edge x = omega arith
-penalty-light (Some terms) edge x = min-le_left (2 ^ 40) (terms.hop + (known_of terms.known edge).flat + odds terms.failure (known_of terms.known edge).least edge.max x)
+penalty-light (Some terms) edge x =
+    let estimate = known_from terms.known edge.scid (slice_get terms.points edge.from) in
+    min-le_left (2 ^ 40) (terms.hop + estimate.penalty + odds terms.failure estimate.least (min edge.max estimate.most) x)
 
 pub trichotomy : (a b : ℕ) → (a < b) ⊎ (a ≡ b) ⊎ (b < a)
 trichotomy a b = grind arith
@@ -193,3 +210,9 @@ pub carried_at : (amount : ℕ) (walk : List Edge) (k : ℕ) → AreCarried amou
 carried_at amount [] k carried within = absurd (omega arith)
 carried_at amount (edge ∷ rest) zero carried within = carried.0
 carried_at amount (edge ∷ rest) (suc k) carried within = carried_at amount rest k carried.1 (omega arith)
+
+-- the penalties of a rest fit 64 bits
+pub spent_small : (terms : Option Terms) (spent : ℕ) → IsSpent terms spent → spent ≤ 20 * 2 ^ 40
+spent_small terms spent is =
+    let request : Ask = record { payer = 0; payee = 0; amount = is.0; limit = None; hops = 20; terms = terms } in
+    omega (arith, penalties_light request is.1, is.2, is.3)

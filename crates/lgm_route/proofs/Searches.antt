@@ -4,18 +4,20 @@ use Rattle.std.proofs.Common.{Option, Some, None, Bool, true, false, refl, sym, 
 use Rattle.lgm_graph.specs.Graph.{Graph, edges, edges_into, AreListed}
 use Rattle.lgm_graph.specs.declared.edge.Edge.{Edge}
 use Rattle.lgm_route.specs.inner.Numbered.{Ask}
+use Rattle.lgm_route.specs.declared.halt.Halt.{Halt}
 use Rattle.lgm_route.specs.declared.label.Label.{Label}
+use Rattle.lgm_route.specs.declared.limits.SearchBudget.{SearchBudget}
 use Rattle.lgm_route.specs.inner.Bounding.{AreLow}
-use Rattle.lgm_route.specs.inner.Numbered.{sent, IsLeast}
+use Rattle.lgm_route.specs.inner.Numbered.{sent, IsUsable, IsLeast}
 use Rattle.lgm_route.specs.inner.Searching.{Low, cost, label_at, edge_at, Spells, first_of, bound_of, number_at, IsSettled, AreLabels, IsFound}
 use Rattle.lgm_route.specs.inner.Searching.{Grows, IsOffered, IsBetter, RelaxesOn, AreSpelled, SomeRest, IsNoBetter, IsDominatorOf, IsUpperBound}
 use Rattle.lgm_route.specs.inner.Relaxations.{IsRelaxationOf, AreRelaxations}
-use Rattle.lgm_route.specs.inner.SearchState.{Ground, SearchState, state_of, IsGround, IsSearch, Extends, IsSettledAt, IsMarkedAt}
+use Rattle.lgm_route.specs.inner.SearchState.{Ground, SearchState, state_of, IsGround, IsSearch, Extends, IsHalted, IsSettledAt, IsMarkedAt}
 use Rattle.lgm_route.specs.inner.SearchState.{AreRelaxationsAt, IsRelaxedOn, IsLeftAt, IsFinished, bound_in}
 use Rattle.lgm_route.proofs.Rests.{trichotomy}
 use Rattle.lgm_route.proofs.Labels.{grows-refl, grows-trans, found-grows, no_better-grows, none_better}
 use Rattle.lgm_route.proofs.Steps.{still_settled, settled_left, settled_hopeless}
-use Rattle.lgm_route.proofs.Endings.{least_of, sent_small}
+use Rattle.lgm_route.proofs.Endings.{least_of, usable_of}
 use Rattle.lgm_route.proofs.Steps.{settled_for, passes_from, passes_later, all_passed, spelled_labels}
 use Rattle.lgm_route.proofs.RelaxationLaws.{leads_later, led_later, all_taken}
 
@@ -39,6 +41,10 @@ extends-refl a = record {
   grows = grows-refl a.ground.graph a.ground.request a.ground.upper_bound a.labels a.best;
   still = λ i m. m;
 }
+
+-- a search that went on and then stopped
+pub halted_on : (a b c : SearchState) (halt : Halt) → Extends a b → IsHalted b c halt → IsHalted a c halt
+halted_on a b c halt h k = record { ground = k.ground ∙ h.ground; may = k.may }
 
 abbrev Relaxing : Ground → List Label → ℕ → SearchState → Edge → Type 0
 Relaxing ground labels i after edge = RelaxesOn ground.graph ground.request ground.low ground.upper_bound labels i after.labels after.best edge
@@ -172,10 +178,19 @@ marked_more a b i h before here j to = by (trichotomy j i)
 -- once all labels are marked the search is finished
 pub finished : (s : SearchState) → IsSearch s → ((i : ℕ) → i < length s.labels → IsMarkedAt s i) → IsFinished s
 finished s is all =
-    none_better s.ground.graph s.ground.request s.ground.low s.ground.upper_bound s.labels s.best is.labelled
+    none_better s.ground.graph s.ground.request s.ground.low s.ground.upper_bound s.labels s.best is.ground.hops.1 is.labelled
     is.ground.low (λ i within. (is.settled i (all i within)).1) is.ground.upper_bound is.found
 
--- the best walk is the least
+-- the best walk so far is usable
+pub walk_usable : (s : SearchState) (best : Label) (walk : List Edge) → s.best ≡ Some best → IsSearch s →
+    Spells s.ground.graph s.labels best walk × (length walk ≡ best.hops) →
+    IsUsable (edges s.ground.graph) s.ground.request walk × (sent s.ground.request.amount walk < 2 ^ 64)
+walk_usable s best walk some is spelled =
+    let found = subst (λ o. IsFound s.ground.graph s.ground.request s.labels s.ground.upper_bound o) some is.found in
+    let usable = usable_of s.ground.graph s.ground.request s.labels s.ground.upper_bound best walk found spelled.0 spelled.1 in
+    (usable, (is.ground.upper_bound walk usable).1)
+
+-- once the search is finished it is the least
 pub walk_least : (s : SearchState) (best : Label) (walk : List Edge) → s.best ≡ Some best → IsSearch s → IsFinished s →
     Spells s.ground.graph s.labels best walk × (length walk ≡ best.hops) →
     IsLeast (edges s.ground.graph) s.ground.request walk × (sent s.ground.request.amount walk < 2 ^ 64)
@@ -184,19 +199,20 @@ walk_least s best walk some is finished spelled =
       least_of s.ground.graph s.ground.request s.labels s.ground.upper_bound best walk
           (λ other usable. subst (λ o. IsNoBetter s.ground.graph s.ground.request s.labels s.ground.upper_bound o
           other) some (finished other usable)) found spelled.0 spelled.1,
-      sent_small s.ground.graph s.ground.request s.labels s.ground.upper_bound best walk is.ground.upper_bound found spelled.0 spelled.1,
+      (walk_usable s best walk some is spelled).1,
     )
 
 -- a new search
-pub begun : (graph : Graph) (request : Ask) (low : Low) (upper_bound : ℕ) → AreListed graph
+pub begun : (graph : Graph) (request : Ask) (low : Low) (upper_bound : ℕ) (budget : SearchBudget)
+    → (1 ≤ request.hops) × (request.hops ≤ 20) → AreListed graph
     → length low.fees ≡ length graph.points → AreLow (edges graph) request low → upper_bound ≤ 2 ^ 65 →
     IsUpperBound (edges graph) request upper_bound →
     (labels : List Label)
     → labels ≡ record { amount = request.amount; penalty = 0; parent = 0; at = 0; node = request.payee; hops = 0; delay = 0 } ∷ []
     → (done : List Bool) → done ≡ [] →
-    IsSearch (state_of graph request low upper_bound labels None done)
-begun graph request low upper_bound listed long are_low small upper labels one done none = record {
-  ground = record { listed = listed; long = long; low = are_low; small = small; upper_bound = upper };
+    IsSearch (state_of graph request low upper_bound budget labels None done)
+begun graph request low upper_bound budget hops listed long are_low small upper labels one done none = record {
+  ground = record { hops = hops; listed = listed; long = long; low = are_low; small = small; upper_bound = upper };
   labelled = rw one first;
   found = tt;
   settled = rw none (λ i h. absurd (no i h));
@@ -212,8 +228,8 @@ begun graph request low upper_bound listed long are_low small upper labels one d
     sound zero within = ([], record { spells = tt; long = refl; joins = refl; owes = refl; spends = refl; waits = refl; in_time = omega arith })
     sound (suc i) within = absurd (omega arith)
 
-    few : (i : ℕ) → i < length (label ∷ []) → (label_at (label ∷ []) i).hops ≤ 19
-    few zero within = omega arith
+    few : (i : ℕ) → i < length (label ∷ []) → (label_at (label ∷ []) i).hops < request.hops
+    few zero within = omega (arith, hops)
     few (suc i) within = absurd (omega arith)
 
     first : AreLabels graph request (label ∷ [])

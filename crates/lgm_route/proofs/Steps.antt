@@ -44,12 +44,12 @@ before_walk graph request labels x y walk other h k (inr (inr p)) =
     ))
 
 -- the better of two walks
-module _ (graph : Graph) (request : Ask) (labels : List Label) (upper_bound : ℕ) where
+module _ (graph : Graph) (request : Ask) (labels : List Label) (upper_bound : ℕ) (short : request.hops ≤ 20) where
   pub better_first : (new : Label) → SomeWalk graph request labels new → new.amount + new.penalty < upper_bound → IsBetter graph request labels upper_bound None new (Some new)
   better_first new some low =
       record {
         found_is = (some, low);
-        lower = omega (arith, some.1.few);
+        lower = omega (arith, some.1.few, short);
         below = omega arith;
         keeps =
             λ walk h. (
@@ -85,7 +85,7 @@ module _ (graph : Graph) (request : Ask) (labels : List Label) (upper_bound : �
       low (inr (inr p)) = omega (arith, found.1, p.0)
 
       lower : IsBefore graph labels new best → cost (new.amount + new.penalty) new.hops ≤ cost (best.amount + best.penalty) best.hops
-      lower (inl p) = omega (arith, some.1.few)
+      lower (inl p) = omega (arith, some.1.few, short)
       lower (inr (inl p)) = omega (arith, p.0, p.1)
       lower (inr (inr p)) = omega (arith, p.0, p.1)
 
@@ -101,7 +101,7 @@ module _ (graph : Graph) (request : Ask) (labels : List Label) (upper_bound : �
       }
     where
       below : IsBefore graph labels best new → cost (best.amount + best.penalty) best.hops ≤ cost (new.amount + new.penalty) new.hops
-      below (inl p) = omega (arith, (found.0).1.few)
+      below (inl p) = omega (arith, (found.0).1.few, short)
       below (inr (inl p)) = omega (arith, p.0, p.1)
       below (inr (inr p)) = omega (arith, p.0, p.1)
 
@@ -155,7 +155,7 @@ label_new labels new i long = get_or_push labels new no_label i long
 
 -- or it is added
 pub offered_new : (graph : Graph) (request : Ask) (labels : List Label) (new : Label) → AreLabels graph request labels →
-    SomeRest graph request labels new → new.hops ≤ 19 → IsOffered graph request labels new (labels ++ new ∷ [])
+    SomeRest graph request labels new → new.hops < request.hops → IsOffered graph request labels new (labels ++ new ∷ [])
 offered_new graph request labels new are some few =
     record {
       labelled = record {
@@ -200,7 +200,7 @@ offered_new graph request labels new are some few =
     sound i (inr (inr p)) within = absurd (omega (arith, all))
 
     low : (i : ℕ) → (i < length labels) ⊎ (i ≡ length labels) ⊎ (length labels < i)
-        → i < length (labels ++ new ∷ []) → (label_at (labels ++ new ∷ []) i).hops ≤ 19
+        → i < length (labels ++ new ∷ []) → (label_at (labels ++ new ∷ []) i).hops < request.hops
     low i (inl p) within = omega (arith, are.few i p, ap (λ l. l.hops) (label_left labels (new ∷ []) i p))
     low i (inr (inl e)) within = omega (arith, ap (λ l. l.hops) (label_new labels new i (sym e)))
     low i (inr (inr p)) within = absurd (omega (arith, all))
@@ -245,7 +245,7 @@ into_node graph labels i at edge listed into =
 pub led : (graph : Graph) (request : Ask) (labels : List Label) (i at owed spent delay : ℕ) (label : Label) (edge : Edge)
     → AreListed graph → IsInto graph labels i at edge → label ≡ label_at labels i → edge.min ≤ request.amount → label.amount ≤ edge.max
     → (edge.from ≡ request.payer → (owed ≡ label.amount) × (spent ≡ label.penalty))
-    → (edge.from ≢ request.payer → (label.hops < 19) × (owed ≡ label.amount + fee_of label.amount edge.base edge.millionths)
+    → (edge.from ≢ request.payer → (label.hops + 1 < request.hops) × (owed ≡ label.amount + fee_of label.amount edge.base edge.millionths)
     × (spent ≡ label.penalty + penalty_of request.terms edge label.amount)
     × (delay ≡ label.delay + counted request.limit edge) × (delay ≤ most_delay request.limit))
     → IsRelaxationOf graph request labels i edge (record { amount = owed; penalty = spent; parent = i; at = at; node = edge.from; hops = label.hops + 1; delay = delay })

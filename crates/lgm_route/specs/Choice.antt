@@ -31,18 +31,18 @@ abbrev pub usable_walks : List PointEdge → Request → List (List PointEdge)
 usable_walks edges request =
     filter (λ walk. nat_le 1 (length walk) && relaxations request request.payer walk) (lists_of edges 20)
 
--- the second walk if it precedes the first
-abbrev pub lesser : Request → List PointEdge → List PointEdge → List PointEdge
-lesser request walk other =
-    if is_lt (slice_cmp nat_cmp (walk_key request other) (walk_key request walk)) then other else walk
+-- the second walk if its key precedes that of the first
+abbrev pub lesser : (List PointEdge → List ℕ) → List PointEdge → List PointEdge → List PointEdge
+lesser key walk other = if is_lt (slice_cmp nat_cmp (key other) (key walk)) then other else walk
 
-abbrev pub least_of : Request → List (List PointEdge) → Option (List PointEdge)
-least_of request [] = None
-least_of request (walk ∷ walks) = Some (fold (lesser request) walk walks)
+-- the walk with the least key
+abbrev pub least_of : (List PointEdge → List ℕ) → List (List PointEdge) → Option (List PointEdge)
+least_of key [] = None
+least_of key (walk ∷ walks) = Some (fold (lesser key) walk walks)
 
 -- the best of the usable walks
 unfoldable pub least_walk : List PointEdge → Request → Option (List PointEdge)
-least_walk edges request = least_of request (usable_walks edges request)
+least_walk edges request = least_of (walk_key request) (usable_walks edges request)
 
 abbrev pub found_by : Request → Option (List PointEdge) → Result (List Hop) RouteFault
 found_by request (Some walk) = Ok (hops_of request walk)

@@ -1,20 +1,53 @@
--- The best walk by what the payer would rather pay than use its edges.
-use Rattle.std.specs.Prelude.{◌≡◌, ◌⊎◌, ℕ, ◌+◌, ◌^◌, ◌≤◌, min, List, [], ◌∷◌, length, Option, Some, None, Result, Ok, Err}
+-- The best walk by what its payer prefers, within limits: by relation and by exhaustive search.
+use Rattle.std.specs.Prelude.{◌≡◌, ◌⊎◌, ℕ, ◌+◌, ◌-◌, ◌^◌, ◌<◌, ◌≤◌, Bool, true, false, ◌&&◌, nat_le, List, [], ◌∷◌, length, filter, Option, None, Some, Result, Ok, Err}
 use Rattle.std.specs.declared.cmp.Ordering.TheVariants.{Less}
 use Rattle.std.specs.Ordering.{nat_cmp}
 use Rattle.std.specs.Cmp.Lexicographic.{slice_cmp}
-use Rattle.lgm_graph.specs.Edges.{PointEdge}
+use Rattle.lgm_graph.specs.Edges.{PointEdge, AreKeyed}
+use Rattle.lgm_graph.specs.Estimates.{Entries, estimate_of}
 use Rattle.lgm_graph.specs.declared.route.Hop.{Hop}
 use Rattle.lgm_route.specs.declared.request.Request.{Request}
+use Rattle.lgm_route.specs.declared.limits.RouteLimits.{RouteLimits}
+use Rattle.lgm_route.specs.declared.limits.SearchBudget.{SearchBudget}
+use Rattle.lgm_route.specs.declared.preferences.Preferences.{Preferences}
 use Rattle.lgm_route.specs.declared.fault.RouteFault.{RouteFault}
 use Rattle.lgm_route.specs.declared.fault.RouteFault.TheVariants.{NoRoute, NoMemory}
-use Rattle.lgm_route.specs.Routes.{owed, ids, IsUsable, hops_of}
-use Rattle.lgm_route.specs.Within.{delay}
-use Rattle.lgm_route.specs.Odds.{odds}
+use Rattle.lgm_route.specs.declared.found.Found.{Found}
+use Rattle.lgm_route.specs.declared.found.SearchFault.{SearchFault}
+use Rattle.lgm_route.specs.declared.found.SearchFault.TheVariants.{Fault, Undecided}
+use Rattle.lgm_route.specs.Routes.{owed, due, ids, IsUsable, IsLeast, hops_of}
+use Rattle.lgm_route.specs.Odds.{penalty_by}
 use Rattle.lgm_route.specs.Answers.{refusal}
-use Rattle.lgm_route.specs.declared.preferences.Preferences.{Preferences}
-use Rattle.lgm_route.specs.declared.within.LimitedFault.{LimitedFault}
-use Rattle.lgm_route.specs.declared.within.LimitedFault.TheVariants.{Fault, Undecided}
+use Rattle.lgm_route.specs.Choice.{usable_walks, least_of, answer_by, answer_of}
+
+-- ---- limits
+
+-- the blocks between the expiry of what the payer offers and that of what the payee is offered: the first edge is the
+-- payer's own, and adds none
+abbrev pub delay : List PointEdge → ℕ
+delay [] = 0
+delay (edge ∷ rest) = due 0 rest
+
+-- the walk takes no longer than the limit, if there is one
+abbrev pub IsInTime : Option ℕ → List PointEdge → Type 0
+IsInTime None walk = Unit {0}
+IsInTime (Some most) walk = delay walk ≤ most
+
+-- it has no more edges than the limit, and takes no longer
+pub record IsWithin (limits : RouteLimits) (walk : List PointEdge) : Type 0 where
+  pub short : length walk ≤ limits.most_hops
+  pub in_time : IsInTime limits.most_delay walk
+
+-- no limit but that of every walk
+abbrev pub no_limits : RouteLimits
+no_limits = record { most_delay = None; most_hops = 20 }
+
+-- ---- what walks cost
+
+-- the penalty of an edge for an amount, by what its payer prefers and what it knows
+abbrev pub penalty_at : Preferences → Entries → PointEdge → ℕ → ℕ
+penalty_at preferences known edge amount =
+    penalty_by preferences.failure_msat preferences.hop_msat (estimate_of known edge.scid edge.from) edge.max amount
 
 -- the penalties of these edges, each for what it carries
 abbrev pub penalties : (PointEdge → ℕ → ℕ) → ℕ → List PointEdge → ℕ
@@ -35,35 +68,100 @@ abbrev pub IsPreferred : (PointEdge → ℕ → ℕ) → Request → List PointE
 IsPreferred penalty request walk other =
     slice_cmp nat_cmp (worth_key penalty request walk) (worth_key penalty request other) ≡ Less
 
--- the walk is within the limit, if there is one
-abbrev pub IsInTime : Option ℕ → List PointEdge → Type 0
-IsInTime None walk = Unit {0}
-IsInTime (Some limit) walk = delay walk ≤ limit
-
--- a usable walk within the limit to which no other is preferred
-pub record IsLeastBy (penalty : PointEdge → ℕ → ℕ) (limit : Option ℕ) (edges : List PointEdge) (request : Request)
+-- a usable walk within the limits to which no other is preferred
+pub record IsLeastBy (penalty : PointEdge → ℕ → ℕ) (limits : RouteLimits) (edges : List PointEdge) (request : Request)
     (walk : List PointEdge) : Type 0 where
   pub usable : IsUsable edges request walk
-  pub in_time : IsInTime limit walk
-  pub first : (other : List PointEdge) → IsUsable edges request other → IsInTime limit other
+  pub within : IsWithin limits walk
+  pub first : (other : List PointEdge) → IsUsable edges request other → IsWithin limits other
       → IsPreferred penalty request other walk → ⊥
 
--- its hops, or no route if no walk within the limit is usable
-abbrev pub IsFoundBy : (PointEdge → ℕ → ℕ) → Option ℕ → List PointEdge → Request → Result (List Hop) RouteFault → Type 0
-IsFoundBy penalty limit edges request (Ok hops) =
-    (walk : List PointEdge) × IsLeastBy penalty limit edges request walk × (hops ≡ hops_of request walk)
-IsFoundBy penalty limit edges request (Err fault) =
-    (fault ≡ NoRoute) × ((walk : List PointEdge) → IsUsable edges request walk → IsInTime limit walk → ⊥)
+-- its hops, or no route if no walk within the limits is usable
+abbrev pub IsFoundBy : (PointEdge → ℕ → ℕ) → RouteLimits → List PointEdge → Request → Result (List Hop) RouteFault → Type 0
+IsFoundBy penalty limits edges request (Ok hops) =
+    (walk : List PointEdge) × IsLeastBy penalty limits edges request walk × (hops ≡ hops_of request walk)
+IsFoundBy penalty limits edges request (Err fault) =
+    (fault ≡ NoRoute) × ((walk : List PointEdge) → IsUsable edges request walk → IsWithin limits walk → ⊥)
 
--- the penalty of an edge: what each hop costs, and what a failure is expected to; at most 2^40 msat, 11 bitcoin
-abbrev pub penalty_at : Preferences → PointEdge → ℕ → ℕ
-penalty_at preferences edge amount =
-    min (2 ^ 40) (preferences.hop_msat + odds preferences.failure_msat 0 edge.max amount)
+-- the refusal, if there is one, else what is found
+abbrev pub IsPreferredBy : Option RouteFault → (PointEdge → ℕ → ℕ) → RouteLimits → List PointEdge → Request
+    → Result (List Hop) RouteFault → Type 0
+IsPreferredBy (Some fault) penalty limits edges request answer = answer ≡ Err fault
+IsPreferredBy None penalty limits edges request answer = IsFoundBy penalty limits edges request answer
 
--- the refusal, or what is found; none of both if memory or labels ran out
-abbrev pub IsPreferredAnswer : (PointEdge → ℕ → ℕ) → Option ℕ → List PointEdge → Request → Result (List Hop) LimitedFault → Type 0
-IsPreferredAnswer penalty limit edges request (Ok hops) =
-    (refusal request ≡ None) × IsFoundBy penalty limit edges request (Ok hops)
-IsPreferredAnswer penalty limit edges request (Err Undecided) = Unit {0}
-IsPreferredAnswer penalty limit edges request (Err (Fault fault)) =
-    (fault ≡ NoMemory) ⊎ (refusal request ≡ Some fault) ⊎ IsFoundBy penalty limit edges request (Err fault)
+abbrev pub IsPreferredAnswer : (PointEdge → ℕ → ℕ) → RouteLimits → List PointEdge → Request → Result (List Hop) RouteFault → Type 0
+IsPreferredAnswer penalty limits edges request answer = IsPreferredBy (refusal request) penalty limits edges request answer
+
+-- ---- by exhaustive search
+
+abbrev pub is_in_time : Option ℕ → List PointEdge → Bool
+is_in_time None walk = true
+is_in_time (Some most) walk = nat_le (delay walk) most
+
+abbrev pub is_within : RouteLimits → List PointEdge → Bool
+is_within limits walk = nat_le (length walk) limits.most_hops && is_in_time limits.most_delay walk
+
+-- the usable walks within the limits
+abbrev pub walks_within : RouteLimits → List PointEdge → Request → List (List PointEdge)
+walks_within limits edges request = filter (is_within limits) (usable_walks edges request)
+
+-- the best of them
+unfoldable pub preferred_walk : (PointEdge → ℕ → ℕ) → RouteLimits → List PointEdge → Request → Option (List PointEdge)
+preferred_walk penalty limits edges request = least_of (worth_key penalty request) (walks_within limits edges request)
+
+-- the first refusal, or the hops of the best walk within the limits, or that none is usable
+unfoldable pub preferred_answer : (PointEdge → ℕ → ℕ) → RouteLimits → List PointEdge → Request → Result (List Hop) RouteFault
+preferred_answer penalty limits edges request =
+    answer_by (refusal request) request (preferred_walk penalty limits edges request)
+
+-- ---- what a call returns
+
+-- the hops of a usable walk within the limits
+abbrev pub IsSomeRoute : RouteLimits → List PointEdge → Request → List Hop → Type 0
+IsSomeRoute limits edges request hops =
+    (walk : List PointEdge) × IsUsable edges request walk × IsWithin limits walk × (hops ≡ hops_of request walk)
+
+-- the best route, which is what the answer is, or one that may not be the best; or why there is none. Neither if memory
+-- or the budget ran out
+abbrev pub IsRouteBy : (Result (List Hop) RouteFault → Type 0) → RouteLimits → List PointEdge → Request
+    → Result Found SearchFault → Type 0
+IsRouteBy is limits edges request (Ok found) =
+    (found.is_best ≡ true → is (Ok found.route))
+    × IsSomeRoute limits edges request found.route × (refusal request ≡ None)
+IsRouteBy is limits edges request (Err Undecided) = refusal request ≡ None
+IsRouteBy is limits edges request (Err (Fault fault)) = (fault ≡ NoMemory) ⊎ is (Err fault)
+
+-- the answer may not be the best one: the budget ran out
+abbrev pub IsCutShort : Result Found SearchFault → Type 0
+IsCutShort (Ok found) = found.is_best ≡ false
+IsCutShort (Err Undecided) = Unit {0}
+IsCutShort (Err (Fault fault)) = ⊥
+
+-- there is a maximum of labels, or of steps
+abbrev pub IsBounded : SearchBudget → Type 0
+IsBounded budget = (budget.most_labels < 2 ^ 64 - 1) ⊎ (budget.most_steps < 2 ^ 64 - 1)
+
+-- the walk that sends least of all isn't within the limits
+abbrev pub IsBeyond : RouteLimits → List PointEdge → Request → Type 0
+IsBeyond limits edges request = (walk : List PointEdge) × IsLeast edges request walk × (IsWithin limits walk → ⊥)
+
+-- ---- laws
+
+-- exhaustive search returns an answer; if node and id identify an edge, each answer is that one
+pub record PreferredIsOne : Type 0 where
+  pub found : (penalty : PointEdge → ℕ → ℕ) (limits : RouteLimits) (edges : List PointEdge) (request : Request)
+      → IsPreferredAnswer penalty limits edges request (preferred_answer penalty limits edges request)
+  pub one : (preferences : Preferences) (known : Entries) (limits : RouteLimits) (edges : List PointEdge)
+      (request : Request) (answer : Result (List Hop) RouteFault) → AreKeyed edges
+      → IsPreferredAnswer (penalty_at preferences known) limits edges request answer
+      → answer ≡ preferred_answer (penalty_at preferences known) limits edges request
+
+-- a payer that prefers nothing and knows of no edge
+abbrev pub no_preferences : Preferences
+no_preferences = record { failure_msat = 0; hop_msat = 0 }
+
+-- its answer without limits is that of the walk that sends least
+abbrev pub NothingPreferred : Type 0
+NothingPreferred =
+    (edges : List PointEdge) (request : Request) → AreKeyed edges
+    → preferred_answer (penalty_at no_preferences []) no_limits edges request ≡ answer_of edges request

@@ -1,19 +1,16 @@
 //! The unique answer to a payment over the edges of a map.
 
-ghost use Rattle.std.specs.Prelude.{◌≡◌, ◌⊎◌, ◌+◌, ◌-◌, ◌*◌, ◌^◌, ◌<◌, Some, Err, length};
+ghost use Rattle.std.specs.Prelude.{◌≡◌, ◌⊎◌, ◌+◌, ◌*◌, ◌^◌, ◌<◌, Some, Err, length};
 ghost use Rattle.lgm_graph.specs.Edges.{edges_of};
 ghost use Rattle.lgm_graph.specs.Graph.{IsGraphOf};
 ghost use Rattle.lgm_graph.specs.Overlay.{overlaid_edges};
 ghost use Rattle.lgm_route.specs.Answers.{refusal};
 ghost use Rattle.lgm_route.specs.Choice.{answer_of};
-ghost use Rattle.lgm_route.specs.Within.{answer_within_of, as_limited, IsBeyond};
 ghost use Rattle.lgm_route.specs.declared.fault.RouteFault.{RouteFault};
-ghost use Rattle.lgm_route.specs.declared.within.LimitedFault.TheVariants.{Fault, Undecided};
 
 use crate::best_route::{least, least_in, least_pooled, least_pooled_in};
 use crate::fault::RouteFault;
 use crate::request::Request;
-use crate::within::{DelayLimit, LimitedFault, least_within};
 use lgm_graph::{Overlay, OverlayView, Route, View, overlays_are_lawful};
 use lgm_par::{Gate, Pool};
 use lgm_store::Map;
@@ -101,37 +98,4 @@ pub fn answer_over_chunked<Rt: Threads + Sync, G: Gate>(
     }
     let over = OverlayView::of(pool.alloc, view, overlay)?;
     least_pooled_in(pool, &over, request)
-}
-
-/// The answer to a payment over what the payer knows beside the map, within a limit of the delay: the best of all usable
-/// walks within it over the edges over the overlay, the only one by exhaustive search. An overlay of nothing leaves the
-/// map's edges.
-///
-/// `Undecided` comes only if the best route of all is beyond the limit, and once as many labels were made as the limit
-/// allows: it says nothing about the payment. The refusals are those of [`answer`].
-pub fn answer_within(
-    alloc: Global,
-    map: &Map,
-    view: &View,
-    overlay: &Overlay,
-    request: &Request,
-    limit: &DelayLimit,
-) -> Result<Route, LimitedFault>
-    requires beside { IsGraphOf map.now view.now }
-    requires few { length view.now.points + 2 * length overlay.now.extra < 2 ^ 32 }
-    ensures refused { (fault : RouteFault) → refusal request.now ≡ Some fault → result ≡ Err (Fault fault) }
-    ensures answer { (result ≡ Err (Fault RouteFault.NoMemory)) ⊎ (result ≡ Err Undecided) ⊎
-        (result ≡ as_limited (answer_within_of limit.now.most_delay
-        (overlaid_edges view.now.known map.now overlay.now) request.now)) }
-    ensures beyond { result ≡ Err Undecided
-        → IsBeyond limit.now.most_delay (overlaid_edges view.now.known map.now overlay.now) request.now }
-    ensures bounded { result ≡ Err Undecided → limit.now.most_labels < 2 ^ 64 - 1 }
-{
-    map.rows_are_lawful();
-    overlays_are_lawful();
-    if let Some(fault) = request.refusal() {
-        return Err(LimitedFault::Fault(fault));
-    }
-    let over = OverlayView::of(alloc, view, overlay)?;
-    least_within(alloc, &over, request, limit)
 }

@@ -5,6 +5,7 @@ ghost use Rattle.std.specs.List.{AllZip};
 ghost use Rattle.lgm_route.specs.inner.Relaxations.{in_list};
 ghost use Rattle.lgm_route.specs.inner.SearchState.{AreRelaxationsAt, Extends};
 
+use crate::halt::Halt;
 use crate::label::Label;
 use crate::penalties::Penalties;
 use crate::search::Search;
@@ -44,7 +45,7 @@ impl<'a, V: RoutingGraph, P: Penalties> Search<'a, V, P> {
         requires { i < length self.now.labels }
     {
         let label = self.label(i);
-        !self.is_done(i) && self.cost_lower_bound(&label) < self.bound() && self.dominator(i) == i
+        !self.is_done(i) && self.cost_lower_bound(&label) < self.bound() && self.dominator(i).0 == i
     }
 
     /// The relaxations of a label.
@@ -66,7 +67,7 @@ impl<'a, V: RoutingGraph, P: Penalties> Search<'a, V, P> {
     }
 
     /// Applies the relaxations of a label, and marks the label.
-    fn merge(&mut self, i: usize, relaxations: &[Label]) -> Result<(), AllocError>
+    fn merge(&mut self, i: usize, relaxations: &[Label]) -> Result<(), Halt>
         requires label { i < length self.old.labels }
         requires relaxations { AreRelaxationsAt self.old i relaxations.now }
         ensures { IfOk result (λ _. Extends self.old self.new) }
@@ -81,7 +82,7 @@ impl<'a, V: RoutingGraph, P: Penalties> Search<'a, V, P> {
     }
 
     /// Settles the labels of a frontier one after the other.
-    fn settle_in_turn(&mut self, frontier: &[usize]) -> Result<(), AllocError>
+    fn settle_in_turn(&mut self, frontier: &[usize]) -> Result<(), Halt>
         requires { All (λ i. i < length self.old.labels) frontier.now }
         ensures { IfOk result (λ _. Extends self.old self.new) }
     {
@@ -98,7 +99,7 @@ impl<'a, V: RoutingGraph + Sync, P: Penalties + Sync> Search<'a, V, P> {
         &mut self,
         pool: &Pool<'_, Rt, G>,
         frontier: &[usize],
-    ) -> Result<(), AllocError>
+    ) -> Result<(), Halt>
         requires { All (λ i. i < length self.old.labels) frontier.now }
         ensures { IfOk result (λ _. Extends self.old self.new) }
     {
@@ -106,7 +107,7 @@ impl<'a, V: RoutingGraph + Sync, P: Penalties + Sync> Search<'a, V, P> {
         for k in 0..frontier.len() {
             match &all[k] {
                 Ok(relaxations) => self.merge(frontier[k], relaxations)?,
-                Err(e) => return Err(*e),
+                Err(e) => return Err(Halt::from(*e)),
             }
         }
         Ok(())
@@ -119,7 +120,7 @@ impl<'a, V: RoutingGraph + Sync, P: Penalties + Sync> Search<'a, V, P> {
         pool: &Pool<'_, Rt, G>,
         frontier: &[usize],
         share: usize,
-    ) -> Result<(), AllocError>
+    ) -> Result<(), Halt>
         requires share { 1 ≤ share }
         requires within { All (λ i. i < length self.old.labels) frontier.now }
         ensures { IfOk result (λ _. Extends self.old self.new) }

@@ -133,6 +133,7 @@ pub(crate) fn is_better<V: RoutingGraph, P: Penalties>(
     best: &Option<Label>,
     new: &Label,
 ) -> bool
+    requires few { request.now.most_hops ≤ 20 }
     requires found { IsFound (V.graph view.now) (asked (P.terms request.now.penalties) request.now) labels.now upper_bound best.now }
     requires new { SomeWalk (V.graph view.now) (asked (P.terms request.now.penalties) request.now) labels.now new.now }
     ensures { IsBetter (V.graph view.now) (asked (P.terms request.now.penalties) request.now) labels.now upper_bound best.now new.now

@@ -2,7 +2,7 @@
 
 ghost use Rattle.lgm_route.specs.Choice.{AnswerIsOne};
 ghost use Rattle.lgm_route.specs.Routes.{LeastIsOne, NarrowingNeverHelps};
-ghost use Rattle.lgm_route.specs.Within.{AnswerWithinIsOne};
+ghost use Rattle.lgm_route.specs.Preferred.{NothingPreferred, PreferredIsOne};
 
 /// A law of routes, stated by the contract; the call does nothing.
 ///
@@ -22,10 +22,17 @@ pub fn answer_is_one()
 
 /// A law of routes, stated by the contract; the call does nothing.
 ///
-/// If two edges with one id from one node are the same, or lead back to it, a request has exactly one answer within a
-/// limit of the delay: that of exhaustive search.
-pub fn answer_within_is_one()
-    ensures { AnswerWithinIsOne }
+/// If two edges with one id from one node are the same, or lead back to it, a request has exactly one answer by
+/// preferences, within limits: that of exhaustive search.
+pub fn preferred_is_one()
+    ensures { PreferredIsOne }
+{}
+
+/// A law of routes, stated by the contract; the call does nothing.
+///
+/// Without preferences, estimates and limits that answer is the one of the walk that sends least.
+pub fn nothing_preferred()
+    ensures { NothingPreferred }
 {}
 
 /// A law of routes, stated by the contract; the call does nothing.

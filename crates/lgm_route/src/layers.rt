@@ -3,6 +3,7 @@
 ghost use Rattle.std.specs.Prelude.{◌<◌, ◌≤◌, length, All, IfOk};
 ghost use Rattle.lgm_route.specs.inner.SearchState.{Extends};
 
+use crate::halt::Halt;
 use crate::penalties::Penalties;
 use crate::queue::Queue;
 use crate::search::Search;
@@ -124,7 +125,7 @@ impl<'a, V: RoutingGraph + Sync, P: Penalties + Sync> Search<'a, V, P> {
         &mut self,
         pool: &Pool<'_, Rt, G>,
         queue: &mut Queue,
-    ) -> Result<(), AllocError>
+    ) -> Result<(), Halt>
         ensures { IfOk result (λ _. Extends self.old self.new) }
     {
         let share = self.early_share();
@@ -145,7 +146,7 @@ impl<'a, V: RoutingGraph + Sync, P: Penalties + Sync> Search<'a, V, P> {
     fn settle_layers<Rt: Threads + Sync, G: Gate>(
         &mut self,
         pool: &Pool<'_, Rt, G>,
-    ) -> Result<(), AllocError>
+    ) -> Result<(), Halt>
         ensures { IfOk result (λ _. Extends self.old self.new) }
     {
         let mut layers = Layers::new(pool.alloc)?;
@@ -165,7 +166,7 @@ impl<'a, V: RoutingGraph + Sync, P: Penalties + Sync> Search<'a, V, P> {
     pub(crate) fn settle_chunked<Rt: Threads + Sync, G: Gate>(
         &mut self,
         pool: &Pool<'_, Rt, G>,
-    ) -> Result<(), AllocError>
+    ) -> Result<(), Halt>
         ensures { IfOk result (λ _. Extends self.old self.new) }
     {
         let mut queue = Queue::of(pool.alloc, self)?;

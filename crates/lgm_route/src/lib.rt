@@ -10,11 +10,15 @@ mod bounds;
 mod entry;
 mod fault;
 mod forward_search;
+mod found;
 mod frontier;
+mod halt;
 mod hops;
 mod label;
 mod laws;
 mod layers;
+mod limits;
+mod numbering;
 mod pareto_fronts;
 mod penalties;
 mod preferences;
@@ -23,14 +27,17 @@ mod queue;
 mod relaxation;
 mod request;
 mod search;
-mod within;
+mod walks;
 
-pub use answers::{answer, answer_chunked, answer_over, answer_over_chunked, answer_within};
+pub use answers::{answer, answer_chunked, answer_over, answer_over_chunked};
 pub use best_route::{least, least_chunked, least_in, least_pooled, least_pooled_in};
 pub use fault::RouteFault;
-pub use laws::{answer_is_one, answer_within_is_one, least_is_one, narrowing_never_helps};
+pub use found::{Found, SearchFault};
+pub use laws::{
+    answer_is_one, least_is_one, narrowing_never_helps, nothing_preferred, preferred_is_one,
+};
 pub use lgm_graph::{Hop, Route, RoutingGraph};
+pub use limits::{RouteLimits, SearchBudget};
 pub use preferences::Preferences;
-pub use preferred::{SearchLimit, answer_preferred, preferred_in};
+pub use preferred::{answer_preferred, preferred_in};
 pub use request::Request;
-pub use within::{DelayLimit, LimitedFault, least_within};

@@ -1,11 +1,14 @@
 //! The undominated labels of each node.
 
-ghost use Rattle.std.specs.Prelude.{IfSome, ◌≡◌, ◌≤◌, ℕ, IfOk, OnErr, false, slice_index_or};
+ghost use Rattle.std.specs.Prelude.{IfSome, ◌≡◌, ◌≤◌, ℕ, ◌<◌, IfOk, IfErr, OnErr, false, slice_index_or};
 ghost use Rattle.lgm_route.specs.inner.Searching.{IsSpelled, AreSpelled, IsDominator, AreLabels, SomeRest, IsOffered};
 ghost use Rattle.lgm_route.specs.inner.Searching.{IsMarked};
+ghost use Rattle.lgm_route.specs.inner.SearchState.{MayHalt};
 ghost use Rattle.lgm_route.specs.inner.Numbered.{asked};
 
+use crate::halt::Halt;
 use crate::label::{Label, dominates};
+use crate::limits::SearchBudget;
 use crate::penalties::Penalties;
 use crate::request::NumberedRequest;
 use lgm_graph::RoutingGraph;
@@ -65,28 +68,29 @@ impl ParetoFronts {
         }
     }
 
-    /// The index of a label of the same node that dominates this one, if the front has one.
+    /// The index of a label of the same node that dominates this one, if the front has one, and how many labels were
+    /// compared.
     pub(crate) fn find_dominator<V: RoutingGraph>(
         &self,
         view: &V,
         labels: &[Label],
         label: &Label,
-    ) -> Option<usize>
+    ) -> (Option<usize>, usize)
         requires spelled { AreSpelled (V.graph view.now) labels.now }
         requires label { IsSpelled (V.graph view.now) labels.now label.now }
-        ensures { IfSome result (λ place. IsDominator (V.graph view.now) labels.now label.now place) }
+        ensures { IfSome result.0 (λ place. IsDominator (V.graph view.now) labels.now label.now place) }
     {
         let mut place = self.first_of(label.node as usize);
-        for _step in 0..labels.len() {
+        for step in 0..labels.len() {
             if labels.len() <= place || labels[place].node != label.node {
-                return None;
+                return (None, step);
             }
             if dominates(view, labels, &labels[place], label) {
-                return Some(place);
+                return (Some(place), step);
             }
             place = self.behind(place);
         }
-        None
+        (None, labels.len())
     }
 
     /// Adds the label that is created next to its node's front, and removes those that it dominates.
@@ -122,33 +126,33 @@ impl ParetoFronts {
     }
 }
 
-/// Adds a label, unless it is dominated. More than this many labels count as out of memory.
+/// Adds a label, unless it is dominated, and returns how many labels were compared. There may be at most this many labels.
 pub(crate) fn offer<V: RoutingGraph, P: Penalties>(
     view: &V,
     request: &NumberedRequest<P>,
     labels: &mut Vec<Label>,
     fronts: &mut ParetoFronts,
-    most: usize,
+    budget: &SearchBudget,
     new: Label,
-) -> Result<(), AllocError>
+) -> Result<usize, Halt>
     requires labelled { AreLabels (V.graph view.now) (asked (P.terms request.now.penalties) request.now) labels.old.items }
     requires new { SomeRest (V.graph view.now) (asked (P.terms request.now.penalties) request.now) labels.old.items new }
-    requires few { new.hops ≤ 19 }
+    requires few { new.hops < request.now.most_hops }
     ensures offered { IfOk result
         (λ _. IsOffered (V.graph view.now) (asked (P.terms request.now.penalties) request.now) labels.old.items new labels.new.items) }
     ensures stays { OnErr result (labels.new.items ≡ labels.old.items) }
+    ensures halted { IfErr result (λ halt. MayHalt budget.now labels.new.items halt) }
 {
-    match fronts.find_dominator(view, labels, &new) {
-        Some(_place) => Ok(()),
-        None => {
-            if most <= labels.len() {
-                return Err(AllocError);
-            }
-            fronts.add(view, labels, &new)?;
-            labels.push(new)?;
-            Ok(())
-        }
+    let (found, compared) = fronts.find_dominator(view, labels, &new);
+    if let Some(_place) = found {
+        return Ok(compared);
     }
+    if budget.most_labels < usize::MAX && budget.most_labels <= labels.len() {
+        return Err(Halt::Labels);
+    }
+    fronts.add(view, labels, &new)?;
+    labels.push(new)?;
+    Ok(compared)
 }
 
 /// Marks an index.

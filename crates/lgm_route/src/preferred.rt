@@ -1,77 +1,197 @@
-//! The best route by what a payer would rather pay than have a payment fail.
+//! The best route by what its payer prefers, within limits.
 
-ghost use Rattle.std.specs.Prelude.{◌≡◌, ◌-◌, ◌<◌, ◌^◌, Some, Err};
+ghost use Rattle.std.specs.Prelude.{◌≡◌, ◌+◌, ◌-◌, ◌*◌, ◌^◌, ◌<◌, ℕ, [], Some, Err, length};
+ghost use Rattle.lgm_graph.specs.Edges.{PointEdge};
 ghost use Rattle.lgm_graph.specs.Graph.{IsGraphOf, point_edges};
 ghost use Rattle.lgm_graph.specs.Overlay.{overlaid_edges};
-ghost use Rattle.std.specs.Prelude.{length, ◌+◌, ◌*◌};
 ghost use Rattle.lgm_route.specs.Answers.{refusal};
-ghost use Rattle.lgm_route.specs.Preferred.{IsPreferredAnswer, penalty_at};
+ghost use Rattle.lgm_route.specs.Preferred.{IsRouteBy, IsPreferredAnswer, IsCutShort, IsBounded, IsBeyond};
+ghost use Rattle.lgm_route.specs.Preferred.{penalty_at, no_preferences, preferred_answer};
+ghost use Rattle.lgm_route.specs.inner.Best.{AreAlike, IsFree, hops_within};
 ghost use Rattle.lgm_route.specs.declared.fault.RouteFault.{RouteFault};
-ghost use Rattle.lgm_route.specs.declared.within.LimitedFault.TheVariants.{Fault, Undecided};
+ghost use Rattle.lgm_route.specs.declared.found.SearchFault.TheVariants.{Fault};
 
-use crate::best_route::{best_walk_of_labels, numbered, route_over};
-use crate::preferences::Preferences;
+use crate::best_route::{least_in, route_of};
+use crate::found::{Found, SearchFault};
+use crate::limits::{RouteLimits, SearchBudget};
+use crate::numbering::numbered;
+use crate::penalties::{NoPenalties, Penalties};
+use crate::preferences::{Preferences, Weights};
 use crate::request::Request;
-use crate::within::LimitedFault;
-use lgm_graph::{Overlay, OverlayView, Route, RoutingGraph, View, overlays_are_lawful};
+use crate::walks::walk_within;
+use lgm_graph::{Estimates, Overlay, OverlayView, Route, RoutingGraph, View, overlays_are_lawful};
 use lgm_store::Map;
 use std::alloc::Global;
 
-/// What may be spent to find a route, and how long it may lock what it sends.
-#[derive(Clone, Copy, Debug, PartialEq, Eq)]
-pub struct SearchLimit {
-    /// The maximum delay, in blocks, if there is one: that of all channels but the first, which is the payer's own.
-    pub most_delay: Option<u16>,
-    /// The maximum number of labels, each of 40 bytes.
-    pub most_labels: usize,
+/// Whether a route is within limits.
+fn is_within(route: &Route, request: &Request, limits: &RouteLimits) -> bool
+    ensures { result ≡ hops_within limits.now request.now.expiry route.now }
+{
+    if usize::from(limits.most_hops) < route.as_slice().len() {
+        return false;
+    }
+    match limits.most_delay {
+        None => true,
+        Some(most) => u64::from(route.expiry()) <= u64::from(request.expiry) + u64::from(most),
+    }
 }
 
-/// The best route of a payment over the edges of a graph by preferences: of all usable walks within the limit the one
-/// that costs least, which is what it sends and the penalties of its edges, each for what it carries. Ties are broken by
-/// fewer channels, then by the lexicographically smaller list of ids from the payer on.
+/// The best route within limits, by one search within a budget.
+fn found_within<V: RoutingGraph, P: Penalties>(
+    alloc: Global,
+    graph: &V,
+    request: &Request,
+    limits: &RouteLimits,
+    penalties: P,
+    budget: &SearchBudget,
+) -> Result<Found, SearchFault>
+    ensures refused { (fault : RouteFault) → refusal request.now ≡ Some fault → result ≡ Err (Fault fault) }
+    ensures answer { (penalty : PointEdge → ℕ → ℕ) → AreAlike (V.graph graph.now) (P.terms penalties) penalty
+        → IsRouteBy (IsPreferredAnswer penalty limits.now (point_edges (V.graph graph.now)) request.now) limits.now
+        (point_edges (V.graph graph.now)) request.now result }
+    ensures bounded { IsCutShort result → IsBounded budget.now }
+{
+    // The contract of `nodes` says that the nodes of edges are numbered.
+    let _nodes = graph.nodes();
+    let numbered = numbered(graph, request, limits, penalties)?;
+    let found = walk_within(alloc, graph, &numbered, budget)?;
+    let route = route_of(alloc, graph, request, &numbered, &found.walk)?;
+    Ok(Found {
+        route,
+        is_best: found.is_best,
+    })
+}
+
+/// The best route of a payer that prefers nothing. Mostly the one that sends least of all is within the limits.
+fn plain_within<V: RoutingGraph>(
+    alloc: Global,
+    graph: &V,
+    request: &Request,
+    limits: &RouteLimits,
+    budget: &SearchBudget,
+) -> Result<Found, SearchFault>
+    ensures refused { (fault : RouteFault) → refusal request.now ≡ Some fault → result ≡ Err (Fault fault) }
+    ensures answer { (penalty : PointEdge → ℕ → ℕ) → IsFree penalty
+        → IsRouteBy (IsPreferredAnswer penalty limits.now (point_edges (V.graph graph.now)) request.now) limits.now
+        (point_edges (V.graph graph.now)) request.now result }
+    ensures bounded { IsCutShort result → IsBounded budget.now }
+    ensures beyond { IsCutShort result → IsBeyond limits.now (point_edges (V.graph graph.now)) request.now }
+{
+    let route = least_in(alloc, graph, request)?;
+    if is_within(&route, request, limits) {
+        return Ok(Found {
+            route,
+            is_best: true,
+        });
+    }
+    found_within(alloc, graph, request, limits, NoPenalties, budget)
+}
+
+/// The best route of a payer with preferences. Mostly the best one of all is within the limits, and that is found sooner.
+fn weighed_within<V: RoutingGraph>(
+    alloc: Global,
+    graph: &V,
+    request: &Request,
+    limits: &RouteLimits,
+    weights: Weights<'_, V>,
+    budget: &SearchBudget,
+) -> Result<Found, SearchFault>
+    requires { weights.graph.now ≡ graph.now }
+    ensures refused { (fault : RouteFault) → refusal request.now ≡ Some fault → result ≡ Err (Fault fault) }
+    ensures answer { IsRouteBy (IsPreferredAnswer (penalty_at weights.entry.preferences weights.entry.estimates.now) limits.now
+        (point_edges (V.graph graph.now)) request.now) limits.now (point_edges (V.graph graph.now)) request.now result }
+    ensures bounded { IsCutShort result → IsBounded budget.now }
+{
+    if limits.most_hops < 20 || limits.most_delay.is_some() {
+        match found_within(alloc, graph, request, &RouteLimits::none(), weights, budget) {
+            Ok(found) => {
+                if found.is_best && is_within(&found.route, request, limits) {
+                    return Ok(found);
+                }
+            }
+            Err(SearchFault::Undecided) => {}
+            Err(SearchFault::Fault(fault)) => return Err(SearchFault::Fault(fault)),
+        }
+    }
+    found_within(alloc, graph, request, limits, weights, budget)
+}
+
+/// The best route of a payment over the edges of a graph by what its payer prefers and knows of edges: of all usable walks
+/// within the limits the one that costs least, which is what it sends and the penalties of its edges, each for what it
+/// carries. Ties are broken by fewer channels, then by the lexicographically smaller list of ids from the payer on.
 ///
-/// The refusals are those of [`least`](crate::least). `NoRoute` comes only if no usable walk is within the limit.
+/// Where the budget runs out it is the best of the routes that were found so far, or `Undecided` if none was. Without
+/// preferences this only happens if the route that sends least of all isn't within the limits.
+///
+/// The refusals are those of [`least`](crate::least). `NoRoute` comes only if no usable walk is within the limits.
 /// `NoMemory` and `Undecided` say nothing about the payment.
 pub fn preferred_in<V: RoutingGraph>(
     alloc: Global,
     graph: &V,
     preferences: &Preferences,
+    estimates: &Estimates,
     request: &Request,
-    limit: &SearchLimit,
-) -> Result<Route, LimitedFault>
+    limits: &RouteLimits,
+    budget: &SearchBudget,
+) -> Result<Found, SearchFault>
     ensures refused { (fault : RouteFault) → refusal request.now ≡ Some fault → result ≡ Err (Fault fault) }
-    ensures answer { IsPreferredAnswer (penalty_at preferences.now) limit.now.most_delay (point_edges (V.graph graph.now))
-        request.now result }
-    ensures bounded { result ≡ Err Undecided → limit.now.most_labels < 2 ^ 64 - 1 }
+    ensures answer { IsRouteBy (IsPreferredAnswer (penalty_at preferences.now estimates.now) limits.now
+        (point_edges (V.graph graph.now)) request.now) limits.now (point_edges (V.graph graph.now)) request.now result }
+    ensures bounded { IsCutShort result → IsBounded budget.now }
+    ensures beyond { preferences.now ≡ no_preferences → estimates.now ≡ [] → IsCutShort result
+        → IsBeyond limits.now (point_edges (V.graph graph.now)) request.now }
 {
-    let numbered = numbered(graph, request, limit.most_delay, *preferences)?;
-    let walk = best_walk_of_labels(alloc, graph, &numbered, limit.most_labels)?;
-    let route = route_over(alloc, graph, request, limit.most_delay, &numbered, walk)?;
-    Ok(route)
+    if preferences.are_none() && estimates.len() == 0 {
+        return plain_within(alloc, graph, request, limits, budget);
+    }
+    let weights = Weights {
+        graph,
+        preferences: *preferences,
+        estimates,
+    };
+    weighed_within(alloc, graph, request, limits, weights, budget)
 }
 
-/// The same over a map with its view and an overlay. An overlay of nothing leaves the map's edges.
+/// The same over a map with its view and an overlay: the only answer, by exhaustive search. An overlay of nothing leaves
+/// the map's edges. The overlay's extra edges have a place in the view if their nodes do in its numbers of 32 bits.
 pub fn answer_preferred(
     alloc: Global,
     map: &Map,
     view: &View,
     overlay: &Overlay,
     preferences: &Preferences,
+    estimates: &Estimates,
     request: &Request,
-    limit: &SearchLimit,
-) -> Result<Route, LimitedFault>
+    limits: &RouteLimits,
+    budget: &SearchBudget,
+) -> Result<Found, SearchFault>
     requires beside { IsGraphOf map.now view.now }
     requires few { length view.now.points + 2 * length overlay.now.extra < 2 ^ 32 }
     ensures refused { (fault : RouteFault) → refusal request.now ≡ Some fault → result ≡ Err (Fault fault) }
-    ensures answer { IsPreferredAnswer (penalty_at preferences.now) limit.now.most_delay
-        (overlaid_edges view.now.known map.now overlay.now) request.now result }
-    ensures bounded { result ≡ Err Undecided → limit.now.most_labels < 2 ^ 64 - 1 }
+    ensures answer { let edges = overlaid_edges view.now.known map.now overlay.now in
+        let penalty = penalty_at preferences.now estimates.now in
+        IsRouteBy (λ answer. answer ≡ preferred_answer penalty limits.now edges request.now) limits.now edges request.now result }
+    ensures bounded { IsCutShort result → IsBounded budget.now }
+    ensures beyond { preferences.now ≡ no_preferences → estimates.now ≡ [] → IsCutShort result
+        → IsBeyond limits.now (overlaid_edges view.now.known map.now overlay.now) request.now }
 {
     map.rows_are_lawful();
     overlays_are_lawful();
     if let Some(fault) = request.refusal() {
-        return Err(LimitedFault::Fault(fault));
+        return Err(SearchFault::Fault(fault));
+    }
+    if overlay.is_empty() {
+        view.shows_the_edges();
+        return preferred_in(alloc, view, preferences, estimates, request, limits, budget);
     }
     let over = OverlayView::of(alloc, view, overlay)?;
-    preferred_in(alloc, &over, preferences, request, limit)
+    preferred_in(
+        alloc,
+        &over,
+        preferences,
+        estimates,
+        request,
+        limits,
+        budget,
+    )
 }

@@ -1,9 +1,10 @@
 //! Settling labels best-first (A\*), and the frontiers of those with the least lower bound.
 
-ghost use Rattle.std.specs.Prelude.{◌<◌, length, All, IfOk, IfSome};
-ghost use Rattle.lgm_route.specs.inner.SearchState.{Extends};
+ghost use Rattle.std.specs.Prelude.{◌<◌, length, All, IfOk, IfErr, IfSome};
+ghost use Rattle.lgm_route.specs.inner.SearchState.{Extends, IsHalted};
 
 use crate::entry::Entry;
+use crate::halt::Halt;
 use crate::label::cost;
 use crate::penalties::Penalties;
 use crate::search::Search;
@@ -25,8 +26,9 @@ impl Queue {
     pub(crate) fn of<V: RoutingGraph, P: Penalties>(
         alloc: Global,
         search: &mut Search<'_, V, P>,
-    ) -> Result<Queue, AllocError>
-        ensures { IfOk result (λ _. Extends search.old search.new) }
+    ) -> Result<Queue, Halt>
+        ensures extends { IfOk result (λ _. Extends search.old search.new) }
+        ensures halted { IfErr result (λ halt. IsHalted search.old search.new halt) }
     {
         let mut queue = Queue {
             heap: BinaryHeap::new(alloc),
@@ -41,8 +43,9 @@ impl Queue {
     pub(crate) fn fill<V: RoutingGraph, P: Penalties>(
         &mut self,
         search: &mut Search<'_, V, P>,
-    ) -> Result<(), AllocError>
-        ensures { IfOk result (λ _. Extends search.old search.new) }
+    ) -> Result<(), Halt>
+        ensures extends { IfOk result (λ _. Extends search.old search.new) }
+        ensures halted { IfErr result (λ halt. IsHalted search.old search.new halt) }
     {
         for i in self.queued..usize::MAX {
             self.queued = i;
@@ -149,8 +152,9 @@ impl<'a, V: RoutingGraph, P: Penalties> Search<'a, V, P> {
     }
 
     /// Settles labels best-first until the remaining ones can be pruned.
-    pub(crate) fn settle_best_first(&mut self, alloc: Global) -> Result<(), AllocError>
-        ensures { IfOk result (λ _. Extends self.old self.new) }
+    pub(crate) fn settle_best_first(&mut self, alloc: Global) -> Result<(), Halt>
+        ensures extends { IfOk result (λ _. Extends self.old self.new) }
+        ensures halted { IfErr result (λ halt. IsHalted self.old self.new halt) }
     {
         let mut queue = Queue::of(alloc, self)?;
         self.settle_queue(&mut queue, usize::MAX)?;
@@ -159,12 +163,9 @@ impl<'a, V: RoutingGraph, P: Penalties> Search<'a, V, P> {
 
     /// Settles the labels of a queue best-first until the remaining ones can be pruned; or, once `most` are settled,
     /// until some walk is found. Returns whether the remaining ones can be pruned.
-    pub(crate) fn settle_queue(
-        &mut self,
-        queue: &mut Queue,
-        most: usize,
-    ) -> Result<bool, AllocError>
-        ensures { IfOk result (λ _. Extends self.old self.new) }
+    pub(crate) fn settle_queue(&mut self, queue: &mut Queue, most: usize) -> Result<bool, Halt>
+        ensures extends { IfOk result (λ _. Extends self.old self.new) }
+        ensures halted { IfErr result (λ halt. IsHalted self.old self.new halt) }
     {
         for turn in 0..usize::MAX {
             if most <= turn && self.has_walk() {
@@ -206,9 +207,10 @@ impl Dives {
         search: &mut Search<'_, V, P>,
         i: usize,
         excess_lower_bound: u64,
-    ) -> Result<(), AllocError>
+    ) -> Result<(), Halt>
         requires { i < length search.old.labels }
-        ensures { IfOk result (λ _. Extends search.old search.new) }
+        ensures extends { IfOk result (λ _. Extends search.old search.new) }
+        ensures halted { IfErr result (λ halt. IsHalted search.old search.new halt) }
     {
         if self.least <= excess_lower_bound
             || self.left == 0

@@ -1,17 +1,17 @@
 //! Relaxation of labels over edges.
 
-ghost use Rattle.std.specs.Prelude.{◌≡◌, ◌<◌, ◌≤◌, length, IfOk, IfSome};
+ghost use Rattle.std.specs.Prelude.{◌≡◌, ◌<◌, ◌≤◌, length, IfOk, IfErr, IfSome};
 ghost use Rattle.lgm_route.specs.inner.Searching.{label_at, first_of};
 ghost use Rattle.lgm_route.specs.inner.Relaxations.{IsRelaxationOf};
-ghost use Rattle.lgm_route.specs.inner.SearchState.{Extends, IsIntoAt, IsRelaxationAt, IsRelaxedOn, IsLeftAt, bound_in};
+ghost use Rattle.lgm_route.specs.inner.SearchState.{Extends, IsHalted, IsIntoAt, IsRelaxationAt, IsRelaxedOn, IsLeftAt, bound_in};
 
+use crate::halt::Halt;
 use crate::label::{Label, cost};
 use crate::penalties::Penalties;
 use crate::search::Search;
 use lgm_graph::{Edge, RoutingGraph, fee};
-use std::alloc::AllocError;
 
-/// The maximum number of edges of a rest that is extended to a longer one.
+/// The maximum number of edges of a dive.
 const MOST_EDGES: u16 = 19;
 
 impl<'a, V: RoutingGraph, P: Penalties> Search<'a, V, P> {
@@ -48,16 +48,18 @@ impl<'a, V: RoutingGraph, P: Penalties> Search<'a, V, P> {
                 delay: label.delay,
             });
         }
-        if label.hops >= MOST_EDGES {
+        if label.hops + 1 >= request.most_hops {
             return None;
         }
         let amount = label.amount as u128 + fee(label.amount, edge.base, edge.millionths);
+        let hops = label.hops as u128 + 1;
+        let beyond = self.lower_bound(edge.from) as u128;
+        // Most edges are pruned by what they charge, and their penalties aren't computed.
+        if bound <= cost(amount + label.penalty as u128 + beyond, hops) || amount >= 1 << 64 {
+            return None;
+        }
         let penalty = request.penalties.add(label.penalty, edge, label.amount);
-        let least = cost(
-            amount + penalty as u128 + self.lower_bound(edge.from) as u128,
-            label.hops as u128 + 1,
-        );
-        if bound <= least || amount >= 1 << 64 {
+        if bound <= cost(amount + penalty as u128 + beyond, hops) {
             return None;
         }
         let delay = self.delay_over(label, edge)?;
@@ -74,12 +76,13 @@ impl<'a, V: RoutingGraph, P: Penalties> Search<'a, V, P> {
 
     /// Applies a relaxation: a walk, or a rest as a new label.
     #[inline(always)]
-    pub(crate) fn insert(&mut self, new: Label) -> Result<(), AllocError>
+    pub(crate) fn insert(&mut self, new: Label) -> Result<(), Halt>
         requires { IsRelaxationOf self.old.ground.graph self.old.ground.request self.old.labels new.parent
             (first_of self.old.ground.graph self.old.labels new) new }
         ensures extends { IfOk result (λ _. Extends self.old self.new) }
         ensures passed { IfOk result (λ _.
             IsRelaxedOn self.old new.parent (first_of self.old.ground.graph self.old.labels new) self.new) }
+        ensures halted { IfErr result (λ halt. IsHalted self.old self.new halt) }
     {
         // The contract of `len` says that labels represent rests.
         let _len = self.len();
@@ -100,12 +103,13 @@ impl<'a, V: RoutingGraph, P: Penalties> Search<'a, V, P> {
         label: &Label,
         at: usize,
         edge: &Edge,
-    ) -> Result<(), AllocError>
+    ) -> Result<(), Halt>
         requires bound { bound_in self.old ≤ bound }
         requires label { label.now ≡ label_at self.old.labels i }
         requires into { IsIntoAt self.old i at edge.now }
         ensures extends { IfOk result (λ _. Extends self.old self.new) }
         ensures passed { IfOk result (λ _. IsRelaxedOn self.old i edge.now self.new) }
+        ensures halted { IfErr result (λ halt. IsHalted self.old self.new halt) }
     {
         match self.relaxation(bound, i, label, at, edge) {
             None => Ok(()),
@@ -117,15 +121,17 @@ impl<'a, V: RoutingGraph, P: Penalties> Search<'a, V, P> {
     }
 
     /// Relaxes a label over all edges into its node.
-    pub(crate) fn relax(&mut self, i: usize) -> Result<(), AllocError>
+    pub(crate) fn relax(&mut self, i: usize) -> Result<(), Halt>
         requires { i < length self.old.labels }
         ensures extends { IfOk result (λ _. Extends self.old self.new) }
         ensures left { IfOk result (λ _. IsLeftAt self.old i self.new) }
+        ensures halted { IfErr result (λ halt. IsHalted self.old self.new halt) }
     {
         let label = self.label(i);
         // A walk that is found meanwhile lowers the bound, which only matters for the labels to come.
         let bound = self.bound();
         let edges = self.edges_into(label.node);
+        self.spend(edges.len())?;
         for at in 0..edges.len() {
             self.relax_edge(bound, i, &label, at, &edges[at])?;
         }
@@ -134,9 +140,10 @@ impl<'a, V: RoutingGraph, P: Penalties> Search<'a, V, P> {
 
     /// Extends a label's rest along the cheapest way from the payer, as far as it is known, so that some walk is found
     /// early.
-    pub(crate) fn dive(&mut self, i: usize) -> Result<(), AllocError>
+    pub(crate) fn dive(&mut self, i: usize) -> Result<(), Halt>
         requires { i < length self.old.labels }
-        ensures { IfOk result (λ _. Extends self.old self.new) }
+        ensures extends { IfOk result (λ _. Extends self.old self.new) }
+        ensures halted { IfErr result (λ halt. IsHalted self.old self.new halt) }
     {
         let mut here = i;
         for _step in 0..MOST_EDGES {

@@ -48,8 +48,8 @@ impl Request {
     }
 }
 
-/// A [`Request`](crate::Request) as a search reads it: with the node indices of payer and payee in a view, and maybe a
-/// limit of the delay, and penalties.
+/// A [`Request`](crate::Request) as a search reads it: with the node indices of payer and payee in a view, and
+/// limits, and penalties.
 #[derive(Clone, Copy)]
 pub(crate) struct NumberedRequest<P> {
     /// The index of the node that pays.
@@ -61,6 +61,8 @@ pub(crate) struct NumberedRequest<P> {
     /// The maximum delay, in blocks: the sum of `cltv_expiry_delta` of all channels but the first. Without one, no
     /// channel's delay counts.
     pub limit: Option<u16>,
+    /// The maximum number of channels, from 1 to 20.
+    pub most_hops: u16,
     /// What the payer would rather pay than use an edge.
     pub penalties: P,
 }

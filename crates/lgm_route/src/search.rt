@@ -1,18 +1,20 @@
 //! The search for the best walk as one value.
 
-ghost use Rattle.std.specs.Prelude.{◌≡◌, ◌^◌, ◌-◌, ◌<◌, ◌≤◌, length, IfOk, true, false, slice_index_or, ◌+◌, ◌*◌};
+ghost use Rattle.std.specs.Prelude.{◌≡◌, ◌^◌, ◌-◌, ◌<◌, ◌≤◌, length, IfOk, IfErr, true, false, slice_index_or, ◌+◌, ◌*◌};
 ghost use Rattle.lgm_graph.specs.Graph.{edges, edges_into, AreListed};
 ghost use Rattle.lgm_route.specs.inner.Bounding.{AreLow};
 ghost use Rattle.lgm_route.specs.inner.Numbered.{asked, IsDelayOver};
 ghost use Rattle.lgm_route.specs.inner.Searching.{label_at, number_at, SomeRest, SomeWalk, IsOffered, IsBetter};
 ghost use Rattle.lgm_route.specs.inner.Searching.{IsUpperBound, IsDominatorOf, cost};
-ghost use Rattle.lgm_route.specs.inner.SearchState.{IsSearch, Extends, IsSettledAt, IsMarkedAt, IsFinished, IsPruned, bound_in};
-ghost use Rattle.lgm_route.specs.inner.Best.{IsBestWalk};
+ghost use Rattle.lgm_route.specs.inner.SearchState.{IsSearch, Extends, IsSettledAt, IsMarkedAt, IsFinished, IsHalted, IsPruned, bound_in};
+ghost use Rattle.lgm_route.specs.inner.Best.{IsBestWalk, IsWalkSoFar};
 ghost use Rattle.std.specs.Option.{option_map};
 
 use crate::bounds::LowerBounds;
+use crate::halt::Halt;
 use crate::hops::rebuild;
 use crate::label::{Label, bound_of, cost, is_better};
+use crate::limits::SearchBudget;
 use crate::pareto_fronts::{ParetoFronts, mark, offer};
 use crate::penalties::Penalties;
 use crate::request::NumberedRequest;
@@ -43,8 +45,9 @@ pub(crate) struct Search<'a, V: RoutingGraph, P: Penalties> {
     fronts: ParetoFronts,
     /// Which labels are settled.
     done: Vec<bool>,
-    /// The maximum number of labels: more count as out of memory. No contract depends on it.
-    most_labels: usize,
+    budget: SearchBudget,
+    /// The number of steps so far. No contract depends on it.
+    spent: u64,
 }
 
 impl<'a, V: RoutingGraph, P: Penalties> Model for Search<'a, V, P> {
@@ -53,10 +56,10 @@ impl<'a, V: RoutingGraph, P: Penalties> Model for Search<'a, V, P> {
 
     ghost Value = { SearchState };
 
-    ghost view = { λ s. state_of (V.graph s.view.now) (asked (P.terms s.request.penalties) s.request) s.low s.upper_bound s.labels.items s.best s.done.items };
+    ghost view = { λ s. state_of (V.graph s.view.now) (asked (P.terms s.request.penalties) s.request) s.low s.upper_bound s.budget s.labels.items s.best s.done.items };
 
     ghost invariant = { λ s. IsSearch
-        (state_of (V.graph s.view.now) (asked (P.terms s.request.penalties) s.request) s.low s.upper_bound s.labels.items s.best s.done.items) };
+        (state_of (V.graph s.view.now) (asked (P.terms s.request.penalties) s.request) s.low s.upper_bound s.budget s.labels.items s.best s.done.items) };
 }
 
 /// The label without edges.
@@ -83,15 +86,22 @@ impl<'a, V: RoutingGraph, P: Penalties> Search<'a, V, P> {
         request: NumberedRequest<P>,
         low: LowerBounds,
         upper_bound: u128,
-        most_labels: usize,
+        budget: SearchBudget,
     ) -> Result<Search<'a, V, P>, AllocError>
+        requires hops { (1 ≤ request.most_hops) × (request.most_hops ≤ 20) }
         requires listed { AreListed (V.graph view.now) }
         requires long { length low.fees ≡ length (V.graph view.now).points }
         requires low { AreLow (edges (V.graph view.now)) (asked (P.terms request.penalties) request) low }
         requires small { upper_bound ≤ 2 ^ 65 }
         requires upper_bound { IsUpperBound (edges (V.graph view.now)) (asked (P.terms request.penalties) request) upper_bound }
         ensures { IfOk result (λ search. search.ground
-            ≡ record { graph = V.graph view.entry.now; request = asked (P.terms request.penalties) request; low = low; upper_bound = upper_bound }) }
+            ≡ record {
+              graph = V.graph view.entry.now;
+              request = asked (P.terms request.penalties) request;
+              low = low;
+              upper_bound = upper_bound;
+              budget = budget;
+            }) }
     {
         let fronts = ParetoFronts::new(alloc, low.fees.len())?;
         let mut labels = Vec::new(alloc);
@@ -105,7 +115,8 @@ impl<'a, V: RoutingGraph, P: Penalties> Search<'a, V, P> {
             best: None,
             fronts,
             done: Vec::new(alloc),
-            most_labels,
+            budget,
+            spent: 0,
         })
     }
 
@@ -186,14 +197,6 @@ impl<'a, V: RoutingGraph, P: Penalties> Search<'a, V, P> {
         bound_of(self.upper_bound, &self.best)
     }
 
-    /// Whether the search has as many labels as it may, if there is a maximum.
-    pub(crate) fn is_full(&self, most_labels: usize) -> bool
-        ensures bounded { result ≡ true → most_labels < 2 ^ 64 - 1 }
-        ensures full { result ≡ true → most_labels ≤ length self.now.labels }
-    {
-        most_labels < usize::MAX && most_labels <= self.labels.len()
-    }
-
     /// Whether some walk was found.
     pub(crate) fn has_walk(&self) -> bool {
         self.best.is_some()
@@ -208,17 +211,18 @@ impl<'a, V: RoutingGraph, P: Penalties> Search<'a, V, P> {
         i < self.done.len() && self.done[i]
     }
 
-    /// The index of a label of the same node that dominates this one, possibly this one itself.
-    pub(crate) fn dominator(&self, i: usize) -> usize
+    /// The index of a label of the same node that dominates this one, possibly this one itself, and how many labels were
+    /// compared.
+    pub(crate) fn dominator(&self, i: usize) -> (usize, usize)
         requires { i < length self.now.labels }
-        ensures { IsDominatorOf self.now.ground.graph self.now.labels i result }
+        ensures { IsDominatorOf self.now.ground.graph self.now.labels i result.0 }
     {
-        match self
+        let (found, compared) = self
             .fronts
-            .find_dominator(self.view, &self.labels, &self.labels[i])
-        {
-            Some(place) => place,
-            None => i,
+            .find_dominator(self.view, &self.labels, &self.labels[i]);
+        match found {
+            Some(place) => (place, compared),
+            None => (i, compared),
         }
     }
 }
@@ -226,22 +230,37 @@ impl<'a, V: RoutingGraph, P: Penalties> Search<'a, V, P> {
 impl<'a, V: RoutingGraph, P: Penalties> Search<'a, V, P> {
     /// Adds a label, unless it is dominated.
     #[inline(always)]
-    pub(crate) fn offer(&mut self, new: Label) -> Result<(), AllocError>
+    pub(crate) fn offer(&mut self, new: Label) -> Result<(), Halt>
         requires new { SomeRest self.old.ground.graph self.old.ground.request self.old.labels new }
-        requires few { new.hops ≤ 19 }
+        requires few { new.hops < self.old.ground.request.hops }
         ensures extends { IfOk result (λ _. Extends self.old self.new) }
         ensures offered { IfOk result (λ _.
             IsOffered self.old.ground.graph self.old.ground.request self.old.labels new self.new.labels) }
         ensures best { IfOk result (λ _. self.new.best ≡ self.old.best) }
+        ensures halted { IfErr result (λ halt. IsHalted self.old self.new halt) }
     {
-        offer(
+        let compared = offer(
             self.view,
             &self.request,
             &mut self.labels,
             &mut self.fronts,
-            self.most_labels,
+            &self.budget,
             new,
         )?;
+        self.spend(compared)?;
+        Ok(())
+    }
+
+    /// Takes so many steps.
+    #[inline(always)]
+    pub(crate) fn spend(&mut self, steps: usize) -> Result<(), Halt>
+        ensures same { self.new ≡ self.old }
+        ensures halted { IfErr result (λ halt. IsHalted self.old self.new halt) }
+    {
+        self.spent = self.spent.saturating_add(steps as u64);
+        if self.budget.most_steps < self.spent {
+            return Err(Halt::Steps);
+        }
         Ok(())
     }
 
@@ -273,6 +292,7 @@ impl<'a, V: RoutingGraph, P: Penalties> Search<'a, V, P> {
         ensures extends { IfOk result (λ _. Extends self.old self.new) }
         ensures here { IfOk result (λ _. IsMarkedAt self.new i) }
         ensures labels { self.new.labels ≡ self.old.labels }
+        ensures ground { self.new.ground ≡ self.old.ground }
     {
         mark(&mut self.done, i)?;
         Ok(())
@@ -280,10 +300,11 @@ impl<'a, V: RoutingGraph, P: Penalties> Search<'a, V, P> {
 }
 
 impl<'a, V: RoutingGraph, P: Penalties> Search<'a, V, P> {
-    /// The best walk, once the search is finished, if one is usable.
+    /// The best walk so far, if there is one. Once the search is finished it is the best of all.
     pub(crate) fn best_walk(&self, alloc: Global) -> Result<Option<Vec<Edge>>, AllocError>
-        requires finished { IsFinished self.now }
-        ensures { IfOk result (λ best. IsBestWalk (edges self.now.ground.graph) self.now.ground.request
+        ensures usable { IfOk result (λ best. IsWalkSoFar (edges self.now.ground.graph) self.now.ground.request
+            (option_map (λ walk. walk.items) best)) }
+        ensures best { IfOk result (λ best. IsFinished self.now → IsBestWalk (edges self.now.ground.graph) self.now.ground.request
             (option_map (λ walk. walk.items) best)) }
     {
         match &self.best {
@@ -310,10 +331,11 @@ impl<'a, V: RoutingGraph, P: Penalties> Search<'a, V, P> {
     }
 
     /// Relaxes a label, unless that was done.
-    fn close(&mut self, i: usize) -> Result<(), AllocError>
+    fn close(&mut self, i: usize) -> Result<(), Halt>
         requires { i < length self.old.labels }
         ensures extends { IfOk result (λ _. Extends self.old self.new) }
         ensures here { IfOk result (λ _. IsMarkedAt self.new i) }
+        ensures halted { IfErr result (λ halt. IsHalted self.old self.new halt) }
     {
         if self.is_done(i) {
             return Ok(());
@@ -324,11 +346,12 @@ impl<'a, V: RoutingGraph, P: Penalties> Search<'a, V, P> {
     }
 
     /// Settles a label: prunes it, or relaxes it or one that dominates it.
-    pub(crate) fn settle(&mut self, i: usize) -> Result<(), AllocError>
+    pub(crate) fn settle(&mut self, i: usize) -> Result<(), Halt>
         requires { i < length self.old.labels }
         ensures extends { IfOk result (λ _. Extends self.old self.new) }
         ensures here { IfOk result (λ _. IsMarkedAt self.new i) }
         ensures pruned { IsPruned self.old i → self.new.labels ≡ self.old.labels }
+        ensures halted { IfErr result (λ halt. IsHalted self.old self.new halt) }
     {
         if self.is_done(i) {
             return Ok(());
@@ -338,7 +361,8 @@ impl<'a, V: RoutingGraph, P: Penalties> Search<'a, V, P> {
             self.mark(i)?;
             return Ok(());
         }
-        let place = self.dominator(i);
+        let (place, compared) = self.dominator(i);
+        self.spend(compared)?;
         self.close(place)?;
         if self.is_done(i) {
             return Ok(());
@@ -348,8 +372,9 @@ impl<'a, V: RoutingGraph, P: Penalties> Search<'a, V, P> {
     }
 
     /// Settles all remaining labels: then no usable walk is better than the best one.
-    pub(crate) fn sweep(&mut self) -> Result<(), AllocError>
-        ensures { IfOk result (λ _. (self.new.ground ≡ self.old.ground) × IsFinished self.new) }
+    pub(crate) fn sweep(&mut self) -> Result<(), Halt>
+        ensures finished { IfOk result (λ _. (self.new.ground ≡ self.old.ground) × IsFinished self.new) }
+        ensures halted { IfErr result (λ halt. IsHalted self.old self.new halt) }
     {
         for i in 0..usize::MAX {
             if self.len() <= i {

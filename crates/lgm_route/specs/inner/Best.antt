@@ -1,5 +1,5 @@
 -- The result of the search: the best walk over numbered edges, whose amount fits 64 bits.
-use Rattle.std.specs.Prelude.{◌≡◌, ℕ, ◌<◌, ◌^◌, List, Option, Some, None, Result, map, length, slice_index_or}
+use Rattle.std.specs.Prelude.{◌≡◌, ◌⊎◌, ℕ, ◌+◌, ◌<◌, ◌≤◌, ◌^◌, min, Bool, true, false, ◌&&◌, nat_le, List, Option, Some, None, Result, Ok, Err, map, length, slice_index_or}
 use Rattle.std.specs.List.{AllByRecursion, position}
 use Rattle.lgm_wire.specs.declared.point.Point.{Point}
 use Rattle.lgm_graph.specs.Edges.{PointEdge}
@@ -10,16 +10,25 @@ use Rattle.lgm_route.specs.declared.request.Request.{Request}
 use Rattle.lgm_graph.specs.declared.route.Hop.{Hop}
 use Rattle.lgm_route.specs.inner.Numbered.{Ask, Terms, penalty_of}
 use Rattle.lgm_route.specs.inner.Numbered.{sent, IsUsable, IsLeast}
-use Rattle.lgm_route.specs.declared.fault.RouteFault.{RouteFault}
+use Rattle.lgm_graph.specs.Route.{expiry}
 use Rattle.lgm_route.specs.Routes as routes
-use Rattle.lgm_route.specs.Answers.{IsFoundOver, IsAnswer}
-use Rattle.lgm_route.specs.Within as within
-use Rattle.lgm_route.specs.Preferred.{IsInTime, IsLeastBy}
+use Rattle.lgm_route.specs.Preferred.{IsWithin, IsBounded}
+use Rattle.lgm_route.specs.declared.fault.RouteFault.TheVariants.{NoRoute, NoMemory}
+use Rattle.lgm_route.specs.declared.found.SearchFault.{SearchFault}
+use Rattle.lgm_route.specs.declared.found.SearchFault.TheVariants.{Fault, Undecided}
+use Rattle.lgm_route.specs.declared.found.WalkFound.{WalkFound}
+use Rattle.lgm_route.specs.declared.limits.RouteLimits.{RouteLimits}
+use Rattle.lgm_route.specs.declared.limits.SearchBudget.{SearchBudget}
 use Rattle.lgm_route.specs.declared.request.NumberedRequest.{NumberedRequest}
 
 abbrev pub IsBestWalk : List Edge → Ask → Option (List Edge) → Type 0
 IsBestWalk edges request None = (walk : List Edge) → IsUsable edges request walk → ⊥
 IsBestWalk edges request (Some walk) = IsLeast edges request walk × (sent request.amount walk < 2 ^ 64)
+
+-- the best walk so far is a usable one
+abbrev pub IsWalkSoFar : List Edge → Ask → Option (List Edge) → Type 0
+IsWalkSoFar edges request None = Unit {0}
+IsWalkSoFar edges request (Some walk) = IsUsable edges request walk × (sent request.amount walk < 2 ^ 64)
 
 -- a walk over numbered edges as one over edges between points
 abbrev pub edges_in : Graph → List Edge → List PointEdge
@@ -44,36 +53,61 @@ abbrev pub AreNumbered : Graph → List Edge → Type 0
 AreNumbered graph walk =
     AllByRecursion (λ edge. (edge.from < length graph.points) × (edge.to < length graph.points)) walk
 
--- the hops of the best walk, or none if no walk within the limit is usable
-abbrev pub IsBestBy : (PointEdge → ℕ → ℕ) → Option ℕ → List PointEdge → Request → Option (List Hop) → Type 0
-IsBestBy penalty limit edges request None =
-    (walk : List PointEdge) → routes.IsUsable edges request walk → IsInTime limit walk → ⊥
-IsBestBy penalty limit edges request (Some hops) =
-    (walk : List PointEdge) × IsLeastBy penalty limit edges request walk × (hops ≡ routes.hops_of request walk)
-
 -- the penalties of edges between numbered nodes are those of the edges between their points
 abbrev pub AreAlike : Graph → Option Terms → (PointEdge → ℕ → ℕ) → Type 0
 AreAlike graph terms penalty =
-    (edge : Edge) (amount : ℕ) → penalty_of terms edge amount ≡ penalty (edge_between graph.points edge) amount
+    (edge : Edge) → edge.from < length graph.points → (amount : ℕ)
+    → penalty_of terms edge amount ≡ penalty (edge_between graph.points edge) amount
+
+-- there are no penalties
+abbrev pub IsFree : (PointEdge → ℕ → ℕ) → Type 0
+IsFree penalty = (edge : PointEdge) (amount : ℕ) → penalty edge amount ≡ 0
 
 -- no penalty for any edge
 abbrev pub free : PointEdge → ℕ → ℕ
 free edge amount = 0
 
--- what is found, within the limit if there is one
-abbrev pub IsFoundFor : Option ℕ → List PointEdge → Request → Result (List Hop) RouteFault → Type 0
-IsFoundFor None edges request answer = IsFoundOver edges request answer
-IsFoundFor (Some limit) edges request answer = within.IsFoundWithin limit edges request answer
+-- a request between numbered nodes as a search sees it
+abbrev pub ask_of : ℕ → ℕ → Request → RouteLimits → Option Terms → Ask
+ask_of payer payee request limits terms = record {
+  payer = payer;
+  payee = payee;
+  amount = request.amount;
+  limit = limits.most_delay;
+  hops = min limits.most_hops 20;
+  terms = terms;
+}
 
-abbrev pub IsAnswerFor : Option ℕ → List PointEdge → Request → Result (List Hop) RouteFault → Type 0
-IsAnswerFor None edges request answer = IsAnswer edges request answer
-IsAnswerFor (Some limit) edges request answer = within.IsAnswerWithin limit edges request answer
-
--- a request between numbered nodes, or none, if a node has no number and so no walk is usable
-abbrev pub IsNumberingOf : {P : Type 0} → Graph → Request → Option ℕ → P → Option (NumberedRequest P) → Type 0
-IsNumberingOf graph request limit penalties None =
-    (walk : List PointEdge) → routes.IsUsable (point_edges graph) request walk → ⊥
-IsNumberingOf graph request limit penalties (Some numbered) =
+-- a request between numbered nodes, or none if a node has no number, or no edge is allowed, and so no walk is usable
+abbrev pub IsNumberingOf : {P : Type 0} → Graph → Request → RouteLimits → P → Option (NumberedRequest P) → Type 0
+IsNumberingOf graph request limits penalties None =
+    (walk : List PointEdge) → routes.IsUsable (point_edges graph) request walk → IsWithin limits walk → ⊥
+IsNumberingOf graph request limits penalties (Some numbered) =
     (position (is_point request.payer) graph.points ≡ Some numbered.payer)
-    × (position (is_point request.payee) graph.points ≡ Some numbered.payee) ×
-    (numbered ≡ record { payer = numbered.payer; payee = numbered.payee; amount = request.amount; limit = limit; penalties = penalties })
+    × (position (is_point request.payee) graph.points ≡ Some numbered.payee)
+    × (1 ≤ limits.most_hops) × (numbered ≡ record {
+      payer = numbered.payer;
+      payee = numbered.payee;
+      amount = request.amount;
+      limit = limits.most_delay;
+      most_hops = min limits.most_hops 20;
+      penalties = penalties;
+    })
+
+-- what the payer offers expires in time, if there is a limit
+abbrev pub is_timely : Option ℕ → ℕ → List Hop → Bool
+is_timely None height hops = true
+is_timely (Some most) height hops = nat_le (expiry hops) (height + most)
+
+-- the hops are within the limits, if this is the expiry of what the payee is offered
+abbrev pub hops_within : RouteLimits → ℕ → List Hop → Bool
+hops_within limits height hops = nat_le (length hops) limits.most_hops && is_timely limits.most_delay height hops
+
+-- what a search within a budget found: a usable walk, the best one unless the budget ran out; or that none is usable
+abbrev pub IsWalkFound : List Edge → Ask → SearchBudget → Result WalkFound SearchFault → Type 0
+IsWalkFound edges request budget (Ok found) =
+    IsUsable edges request found.walk.items × (sent request.amount found.walk.items < 2 ^ 64)
+    × (found.is_best ≡ true → IsLeast edges request found.walk.items) × (found.is_best ≡ false → IsBounded budget)
+IsWalkFound edges request budget (Err Undecided) = IsBounded budget
+IsWalkFound edges request budget (Err (Fault fault)) =
+    (fault ≡ NoMemory) ⊎ ((fault ≡ NoRoute) × ((walk : List Edge) → IsUsable edges request walk → ⊥))

@@ -1,43 +1,34 @@
 -- Walks over edges between numbered nodes: as in Routes, for the search.
-use Rattle.std.specs.Prelude.{◌≡◌, ℕ, ◌+◌, ◌^◌, ◌<◌, ◌≤◌, min, List, [], ◌∷◌, length, map, Contains, Option, Some, None}
-use Rattle.std.specs.Prelude.{Bool, ◌&&◌, nat_eq, if◌then◌else◌}
+use Rattle.std.specs.Prelude.{◌≡◌, ℕ, ◌+◌, ◌<◌, ◌≤◌, List, [], ◌∷◌, length, map, slice_get, Contains, Option, Some, None}
 use Rattle.std.specs.declared.cmp.Ordering.TheVariants.{Less}
 use Rattle.std.specs.Ordering.{nat_cmp}
 use Rattle.std.specs.Cmp.Lexicographic.{slice_cmp}
 use Rattle.lgm_graph.specs.Fee.{fee_of}
+use Rattle.lgm_wire.specs.declared.point.Point.{Point}
+use Rattle.lgm_graph.specs.Estimates.{Entries, estimate_of, no_estimate}
 use Rattle.lgm_graph.specs.declared.edge.Edge.{Edge}
-use Rattle.lgm_route.specs.Odds.{odds}
+use Rattle.lgm_graph.specs.declared.estimate.Estimate.{Estimate}
+use Rattle.lgm_route.specs.Odds.{penalty_by}
 use Rattle.lgm_route.specs.declared.request.NumberedRequest.{NumberedRequest}
 
--- what is known of the edge with an id out of a node: what it surely carries, and what the payer would rather pay than
--- use it
-pub record Known : Type 0 where
-  pub scid : ℕ
-  pub from : ℕ
-  pub least : ℕ
-  pub flat : ℕ
-
--- what a payer puts on a failed try and on each hop, and what it knows of edges
+-- what a payer puts on a failed try and on each hop, and what it knows of edges, which are named by points
 pub record Terms : Type 0 where
   pub failure : ℕ
   pub hop : ℕ
-  pub known : List Known
+  -- the point of each node number
+  pub points : List Point
+  pub known : Entries
 
-abbrev pub is_of : Edge → Known → Bool
-is_of edge known = nat_eq known.scid edge.scid && nat_eq known.from edge.from
-
--- of what is known of the edge the first
-abbrev pub known_of : List Known → Edge → Known
-known_of [] edge = record { scid = edge.scid; from = edge.from; least = 0; flat = 0 }
-known_of (known ∷ more) edge = if is_of edge known then known else known_of more edge
-
-abbrev pub penalty_by : Terms → Known → Edge → ℕ → ℕ
-penalty_by terms known edge amount = min (2 ^ 40) (terms.hop + known.flat + odds terms.failure known.least edge.max amount)
+-- what is known of an edge out of a point, if there is one
+abbrev pub known_from : Entries → ℕ → Option Point → Estimate
+known_from known id None = no_estimate
+known_from known id (Some point) = estimate_of known id point
 
 -- what the payer would rather pay than send the amount over the edge: nothing without terms
 abbrev pub penalty_of : Option Terms → Edge → ℕ → ℕ
 penalty_of None edge amount = 0
-penalty_of (Some terms) edge amount = penalty_by terms (known_of terms.known edge) edge amount
+penalty_of (Some terms) edge amount =
+    penalty_by terms.failure terms.hop (known_from terms.known edge.scid (slice_get terms.points edge.from)) edge.max amount
 
 -- a request as a search sees it
 pub record Ask : Type 0 where
@@ -45,6 +36,8 @@ pub record Ask : Type 0 where
   pub payee : ℕ
   pub amount : ℕ
   pub limit : Option ℕ
+  -- the greatest number of edges
+  pub hops : ℕ
   pub terms : Option Terms
 
 abbrev pub asked : {P : Type 0} → Option Terms → NumberedRequest P → Ask
@@ -53,6 +46,7 @@ asked terms request = record {
   payee = request.payee;
   amount = request.amount;
   limit = request.limit;
+  hops = request.most_hops;
   terms = terms;
 }
 
@@ -125,10 +119,10 @@ IsRest edges request node [] = node ≡ request.payee
 IsRest edges request node (edge ∷ rest) =
     IsStep edges request node edge rest × IsRest edges request edge.to rest
 
--- a walk of 1 to 20 edges, from the payer to the payee, within the request's limit
+-- a walk from the payer to the payee, within the request's limits
 pub record IsUsable (edges : List Edge) (request : Ask) (walk : List Edge) : Type 0 where
   pub some : 1 ≤ length walk
-  pub few : length walk ≤ 20
+  pub few : length walk ≤ request.hops
   pub joins : IsRest edges request request.payer walk
   pub in_time : walk_delay request.limit walk ≤ most_delay request.limit
 

@@ -21,7 +21,7 @@ abbrev pub IsNeedless : Ask → Low → ℕ → Label → Edge → Type 0
 IsNeedless request low bound label edge =
     edge.min ≤ request.amount → label.amount ≤ edge.max →
     (edge.from ≢ request.payer) ×
-    (label.hops < 19 → label.delay + counted request.limit edge + number_at low.delays edge.from ≤ most_delay request.limit →
+    (label.hops + 1 < request.hops → label.delay + counted request.limit edge + number_at low.delays edge.from ≤ most_delay request.limit →
     (bound ≤ cost (label.amount + fee_of label.amount edge.base edge.millionths
     + (label.penalty + penalty_of request.terms edge label.amount) + number_at low.fees edge.from) (label.hops + 1))
     ⊎ (2 ^ 64 ≤ label.amount + fee_of label.amount edge.base edge.millionths))
@@ -41,7 +41,7 @@ pub record IsRelaxationOf (graph : Graph) (request : Ask) (labels : List Label) 
   pub hops : new.hops ≡ (label_at labels i).hops + 1
   pub whole : edge.from ≡ request.payer → (new.amount ≡ (label_at labels i).amount) × (new.penalty ≡ (label_at labels i).penalty)
   pub longer : edge.from ≢ request.payer →
-      (new.hops ≤ 19)
+      (new.hops < request.hops)
       × (new.amount ≡ (label_at labels i).amount + fee_of (label_at labels i).amount edge.base edge.millionths)
       × (new.penalty ≡ (label_at labels i).penalty + penalty_of request.terms edge (label_at labels i).amount)
       × (new.delay ≡ (label_at labels i).delay + counted request.limit edge)

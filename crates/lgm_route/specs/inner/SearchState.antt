@@ -1,9 +1,12 @@
 -- A search as one value: its input, and its state.
-use Rattle.std.specs.Prelude.{◌≡◌, ℕ, ◌+◌, ◌^◌, ◌≤◌, List, length, Option, Bool, true, false, slice_index_or}
+use Rattle.std.specs.Prelude.{◌≡◌, ℕ, ◌+◌, ◌-◌, ◌^◌, ◌<◌, ◌≤◌, List, length, Option, Bool, true, false, slice_index_or}
 use Rattle.lgm_graph.specs.Graph.{Graph, edges, AreListed}
 use Rattle.lgm_graph.specs.declared.edge.Edge.{Edge}
 use Rattle.lgm_route.specs.inner.Numbered.{Ask}
 use Rattle.lgm_route.specs.declared.label.Label.{Label}
+use Rattle.lgm_route.specs.declared.limits.SearchBudget.{SearchBudget}
+use Rattle.lgm_route.specs.declared.halt.Halt.{Halt}
+use Rattle.lgm_route.specs.declared.halt.Halt.TheVariants.{NoMemory, Labels, Steps}
 use Rattle.lgm_route.specs.inner.Numbered.{IsUsable}
 use Rattle.lgm_route.specs.inner.Bounding.{AreLow}
 use Rattle.lgm_route.specs.inner.Searching.{Low, label_at, number_at, cost, bound_of, IsSettled, AreLabels, IsFound, Grows}
@@ -16,6 +19,8 @@ pub record Ground : Type 0 where
   pub request : Ask
   pub low : Low
   pub upper_bound : ℕ
+  -- what may be spent
+  pub budget : SearchBudget
 
 -- the labels, the best walk so far, and which labels are settled
 pub record SearchState : Type 0 where
@@ -24,15 +29,16 @@ pub record SearchState : Type 0 where
   pub best : Option Label
   pub done : List Bool
 
-abbrev pub state_of : Graph → Ask → Low → ℕ → List Label → Option Label → List Bool → SearchState
-state_of graph request low upper_bound labels best done = record {
-  ground = record { graph = graph; request = request; low = low; upper_bound = upper_bound };
+abbrev pub state_of : Graph → Ask → Low → ℕ → SearchBudget → List Label → Option Label → List Bool → SearchState
+state_of graph request low upper_bound budget labels best done = record {
+  ground = record { graph = graph; request = request; low = low; upper_bound = upper_bound; budget = budget };
   labels = labels;
   best = best;
   done = done;
 }
 
 pub record IsGround (ground : Ground) : Type 0 where
+  pub hops : (1 ≤ ground.request.hops) × (ground.request.hops ≤ 20)
   pub listed : AreListed ground.graph
   pub long : length ground.low.fees ≡ length ground.graph.points
   pub low : AreLow (edges ground.graph) ground.request ground.low
@@ -53,6 +59,18 @@ pub record Extends (before after : SearchState) : Type 0 where
   pub grows : Grows before.ground.graph before.ground.request before.ground.upper_bound before.labels before.best
       after.labels after.best
   pub still : (i : ℕ) → slice_index_or before.done i false ≡ true → slice_index_or after.done i false ≡ true
+
+-- a search of so many labels may stop: memory was refused, or there are as many labels as there may be, or it took as
+-- many steps as it may
+abbrev pub MayHalt : SearchBudget → List Label → Halt → Type 0
+MayHalt budget labels NoMemory = Unit {0}
+MayHalt budget labels Labels = (budget.most_labels ≤ length labels) × (budget.most_labels < 2 ^ 64 - 1)
+MayHalt budget labels Steps = budget.most_steps < 2 ^ 64 - 1
+
+-- the same search, which stopped
+pub record IsHalted (before after : SearchState) (halt : Halt) : Type 0 where
+  pub ground : after.ground ≡ before.ground
+  pub may : MayHalt after.ground.budget after.labels halt
 
 -- the bound that a better walk is below
 abbrev pub bound_in : SearchState → ℕ
@@ -107,7 +125,8 @@ IsLeftAt before i after =
     after.labels after.best
 
 -- a new search over the graph for the request
-pub record IsBegun (graph : Graph) (request : Ask) (state : SearchState) : Type 0 where
+pub record IsBegun (graph : Graph) (request : Ask) (budget : SearchBudget) (state : SearchState) : Type 0 where
   pub graph_is : state.ground.graph ≡ graph
   pub request_is : state.ground.request ≡ request
+  pub budget_is : state.ground.budget ≡ budget
   pub upper_bound : IsUpperBound (edges state.ground.graph) state.ground.request state.ground.upper_bound

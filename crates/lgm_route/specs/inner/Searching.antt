@@ -92,7 +92,7 @@ pub record IsWalk (graph : Graph) (request : Ask) (labels : List Label) (label :
   pub spells : Spells graph labels label walk
   pub long : length walk ≡ label.hops
   pub some : 1 ≤ label.hops
-  pub few : label.hops ≤ 20
+  pub few : label.hops ≤ request.hops
   pub joins : IsRest (edges graph) request request.payer walk
   pub sends : sent request.amount walk ≡ label.amount
   pub costs : worth request walk ≡ label.amount + label.penalty
@@ -161,7 +161,7 @@ Reaches graph request low upper_bound labels found node rest =
 pub record IsRelaxed (graph : Graph) (request : Ask) (low : Low) (upper_bound : ℕ)
     (labels : List Label) (found : Option Label) (edge : Edge) (rest : List Edge) : Type 0 where
   pub whole : edge.from ≡ request.payer → IsNoBetter graph request labels upper_bound found (edge ∷ rest)
-  pub longer : length rest < 19
+  pub longer : length rest + 1 < request.hops
       → delay request.limit (edge ∷ rest) + number_at low.delays edge.from ≤ most_delay request.limit
       → Reaches graph request low upper_bound labels found edge.from (edge ∷ rest)
 
@@ -187,7 +187,7 @@ pub record AreLabels (graph : Graph) (request : Ask) (labels : List Label) : Typ
   pub first : ((label_at labels 0).node ≡ request.payee) × ((label_at labels 0).hops ≡ 0)
   pub sound : (i : ℕ) → i < length labels
       → (rest : List Edge) × IsLabel graph request labels (label_at labels i) rest
-  pub few : (i : ℕ) → i < length labels → (label_at labels i).hops ≤ 19
+  pub few : (i : ℕ) → i < length labels → (label_at labels i).hops < request.hops
 
 -- the best walk so far is a usable walk, and costs less than the upper bound of the search
 abbrev pub IsFound : Graph → Ask → List Label → ℕ → Option Label → Type 0

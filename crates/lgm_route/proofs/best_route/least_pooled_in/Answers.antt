@@ -1,10 +1,16 @@
-use Rattle.std.proofs.Common.{None, refl}
+use Rattle.std.proofs.Common.{◌≡◌, ◌⊎◌, refl, subst}
+use Rattle.std.specs.Prelude.{Err}
 use Rattle.lgm_graph.specs.Graph.{point_edges}
+use Rattle.lgm_route.specs.Preferred.{IsFoundBy}
 use Rattle.lgm_route.specs.inner.Best.{free}
+use Rattle.lgm_route.specs.declared.fault.RouteFault.TheVariants.{NoMemory}
 use Rattle.lgm_route.proofs.PointWalkLaws.{free_answer}
 use Rattle.lgm_route.proofs.best_route.least_pooled_in.Goals as goal
 
 pub returns-clause-answer : goal.returns-clause-answer
 returns-clause-answer g c =
-    free_answer None (point_edges (g.V.RoutingGraph.graph c.args.graph.now)) c.args.request.now c.route_over.result
-    c.in_ok-numbered.ensures.allowed (c.route_over.ensures free (λ edge amount. refl))
+    let edges = point_edges (g.V.RoutingGraph.graph c.args.graph.now) in
+    let found = c.route_over.result in
+    free_answer edges c.args.request.now found c.in_ok-numbered.ensures.allowed
+    (subst (λ l. (found ≡ Err NoMemory) ⊎ IsFoundBy free l edges c.args.request.now found) c.none-2.ensures
+    (c.route_over.ensures free (λ edge numbered amount. refl)))

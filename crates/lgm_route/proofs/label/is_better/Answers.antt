@@ -22,16 +22,16 @@ returns-in-None g c =
     let new = c.args.new.now in
     let cost = c.cost.ensures.exact in
     subst (λ (o : Option Label). IsBetter graph request labels upper_bound o new (if nat_lt c.cost.result upper_bound then Some new else o)) (sym c.in-None.is)
-    (better_choice graph request labels upper_bound None new (nat_lt c.cost.result upper_bound)
-    (λ e. better_first graph request labels upper_bound new c.requires.new (omega (arith, cost, tested c.cost.result upper_bound e)))
-    (λ e. better_none graph request labels upper_bound new (omega (arith, cost, failed c.cost.result upper_bound e))))
+    (better_choice graph request labels upper_bound c.requires.few None new (nat_lt c.cost.result upper_bound)
+    (λ e. better_first graph request labels upper_bound c.requires.few new c.requires.new (omega (arith, cost, tested c.cost.result upper_bound e)))
+    (λ e. better_none graph request labels upper_bound c.requires.few new (omega (arith, cost, failed c.cost.result upper_bound e))))
 
 pub returns-then-cost-least : goal.returns-then-cost-least
 returns-then-cost-least g c =
     let cost = c.cost-cost.ensures.exact in
     let least = c.cost-least.ensures.exact in
     better_by (g.V.RoutingGraph.graph c.args.view.now) (asked (g.P.Penalties.terms c.args.request.now.penalties) c.args.request.now)
-    c.args.labels.now c.args.upper_bound c.args.best.now c.in-Some.best
+    c.args.labels.now c.args.upper_bound c.requires.few c.args.best.now c.in-Some.best
     c.args.new.now (nat_lt c.cost-cost.result c.cost-least.result) c.in-Some.is c.requires.found c.requires.new
     (λ e. inl (omega (arith, cost, least, tested c.cost-cost.result c.cost-least.result e)))
     (λ e. inl (omega (arith, cost, least, c.if-cost-least.true, failed c.cost-cost.result c.cost-least.result e)))
@@ -43,7 +43,7 @@ returns-then-new-best g c =
     let new = c.args.new.now in
     let best = c.in-Some.best in
     better_by (g.V.RoutingGraph.graph c.args.view.now) (asked (g.P.Penalties.terms c.args.request.now.penalties) c.args.request.now)
-    c.args.labels.now c.args.upper_bound c.args.best.now c.in-Some.best
+    c.args.labels.now c.args.upper_bound c.requires.few c.args.best.now c.in-Some.best
     c.args.new.now (nat_lt new.hops best.hops) c.in-Some.is c.requires.found c.requires.new
     (λ e. inr (inl (omega (arith, cost, least, c.if-cost-least.false), tested new.hops best.hops e)))
     (λ e. inr (inl (omega (arith, cost, least, c.if-cost-least.false), omega (arith, c.if-new-best.true, failed new.hops best.hops e))))
@@ -53,7 +53,7 @@ returns-else-new-best g c =
     let cost = c.cost-cost.ensures.exact in
     let least = c.cost-least.ensures.exact in
     better_by (g.V.RoutingGraph.graph c.args.view.now) (asked (g.P.Penalties.terms c.args.request.now.penalties) c.args.request.now)
-    c.args.labels.now c.args.upper_bound c.args.best.now c.in-Some.best
+    c.args.labels.now c.args.upper_bound c.requires.few c.args.best.now c.in-Some.best
     c.args.new.now c.ids_first.result c.in-Some.is c.requires.found c.requires.new
     (λ e. inr (inr (omega (arith, cost, least, c.if-cost-least.false), c.if-new-best.false, c.ids_first.ensures.first e)))
     (λ e. inr (inr (omega (arith, cost, least, c.if-cost-least.false), sym c.if-new-best.false, c.ids_first.ensures.after e)))

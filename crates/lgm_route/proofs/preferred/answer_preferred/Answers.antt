@@ -1,11 +1,54 @@
+use Rattle.std.proofs.Common.{◌≡◌, ◌∙◌, refl, sym, ap, subst, inr}
+use Rattle.lgm_graph.specs.Edges.{edges_of, AreKeyed}
 use Rattle.lgm_graph.specs.Graph.{point_edges}
 use Rattle.lgm_graph.specs.Overlay.{overlaid_edges}
-use Rattle.lgm_route.specs.Preferred.{penalty_at}
-use Rattle.lgm_route.proofs.PreferredLaws.{preferred_reordered}
+use Rattle.lgm_route.specs.Preferred.{penalty_at, preferred_answer, IsRouteBy, IsBeyond}
+use Rattle.lgm_route.proofs.PreferredLaws.{route_reordered, route_refused, beyond_reordered}
 use Rattle.lgm_route.proofs.preferred.answer_preferred.Goals as goal
+
+pub returns-in-Some-clause-answer : goal.returns-in-Some-clause-answer
+returns-in-Some-clause-answer c =
+    let view = c.args.view.now in
+    inr (route_refused c.args.preferences.now c.args.estimates.now c.args.limits.now
+    (overlaid_edges view.known c.args.map.now c.args.overlay.now) c.args.request.now c.in-Some.fault
+    (c.overlays_are_lawful.ensures.keyed view.known c.args.map.now c.args.overlay.now c.rows_are_lawful.ensures.ascend)
+    (sym c.refusal.ensures ∙ c.in-Some.is))
+
+pub returns-then-is_empty-clause-answer : goal.returns-then-is_empty-clause-answer
+returns-then-is_empty-clause-answer c =
+    let known = c.args.view.now.known in
+    let rows = c.args.map.now in
+    let same : overlaid_edges known rows c.args.overlay.now ≡ edges_of known rows =
+    ap (overlaid_edges known rows) (c.if-is_empty.ensures refl) ∙ c.overlays_are_lawful.ensures.neutral known rows in
+    let penalty = penalty_at c.args.preferences.now c.args.estimates.now in
+    subst (λ edges. IsRouteBy (λ answer. answer ≡ preferred_answer penalty c.args.limits.now edges c.args.request.now) c.args.limits.now
+    edges c.args.request.now c.preferred_in.result) (sym same)
+    (route_reordered c.args.preferences.now c.args.estimates.now c.args.limits.now (point_edges c.args.view.now) (edges_of known rows)
+    c.args.request.now c.preferred_in.result
+    (subst AreKeyed same (c.overlays_are_lawful.ensures.keyed known rows c.args.overlay.now c.rows_are_lawful.ensures.ascend))
+    (c.shows_the_edges.ensures.once rows c.requires.beside) c.preferred_in.ensures.answer)
+
+pub returns-then-is_empty-clause-beyond : goal.returns-then-is_empty-clause-beyond
+returns-then-is_empty-clause-beyond c = λ none known cut.
+    let rows = c.args.map.now in
+    let bits = c.args.view.now.known in
+    let same : overlaid_edges bits rows c.args.overlay.now ≡ edges_of bits rows =
+    ap (overlaid_edges bits rows) (c.if-is_empty.ensures refl) ∙ c.overlays_are_lawful.ensures.neutral bits rows in
+    subst (λ edges. IsBeyond c.args.limits.now edges c.args.request.now) (sym same)
+    (beyond_reordered c.args.limits.now (point_edges c.args.view.now) (edges_of bits rows) c.args.request.now
+    (c.shows_the_edges.ensures.once rows c.requires.beside) (c.preferred_in.ensures.beyond none known cut))
 
 pub returns-clause-answer : goal.returns-clause-answer
 returns-clause-answer c =
-    preferred_reordered (penalty_at c.args.preferences.now) c.args.limit.now.most_delay (point_edges c.in_ok-over.over)
-    (overlaid_edges c.args.view.now.known c.args.map.now c.args.overlay.now) c.args.request.now c.preferred_in.result
-    (c.in_ok-over.ensures.edges c.args.map.now c.rows_are_lawful.ensures.ended c.requires.beside) c.preferred_in.ensures.answer
+    let view = c.args.view.now in
+    route_reordered c.args.preferences.now c.args.estimates.now c.args.limits.now (point_edges c.in_ok-over.over)
+    (overlaid_edges view.known c.args.map.now c.args.overlay.now) c.args.request.now c.preferred_in-2.result
+    (c.overlays_are_lawful.ensures.keyed view.known c.args.map.now c.args.overlay.now c.rows_are_lawful.ensures.ascend)
+    (c.in_ok-over.ensures.edges c.args.map.now c.rows_are_lawful.ensures.ended c.requires.beside) c.preferred_in-2.ensures.answer
+
+pub returns-clause-beyond : goal.returns-clause-beyond
+returns-clause-beyond c = λ none known cut.
+    beyond_reordered c.args.limits.now (point_edges c.in_ok-over.over)
+    (overlaid_edges c.args.view.now.known c.args.map.now c.args.overlay.now) c.args.request.now
+    (c.in_ok-over.ensures.edges c.args.map.now c.rows_are_lawful.ensures.ended c.requires.beside)
+    (c.preferred_in-2.ensures.beyond none known cut)

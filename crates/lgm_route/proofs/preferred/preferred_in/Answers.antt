@@ -1,33 +1,23 @@
-use Rattle.std.proofs.Common.{◌≡◌, ap, subst}
-use Rattle.std.specs.Prelude.{Ok, Err}
-use Rattle.std.proofs.lemmas.Result.{err_from_is_err_and}
-use Rattle.lgm_graph.specs.Graph.{point_edges}
+use Rattle.std.proofs.Common.{◌≡◌, ◌∙◌, sym, ap, length, arith}
+use Rattle.std.specs.Prelude.{nat_eq, ◌&&◌}
+use Rattle.std.proofs.lemmas.Bool.{false≢true}
+use Rattle.lgm_route.specs.Preferred.{penalty_at}
 use Rattle.lgm_route.specs.declared.preferences.Preferences.{Preferences}
-use Rattle.lgm_route.specs.declared.request.NumberedRequest.{NumberedRequest}
-use Rattle.lgm_route.specs.declared.within.LimitedFault.TheVariants.{Fault}
-use Rattle.lgm_route.specs.Preferred.{penalty_at, IsPreferredAnswer}
-use Rattle.lgm_route.proofs.PreferredLaws.{alike, preferred_ok, preferred_err}
+use Rattle.lgm_route.proofs.PreferredLaws.{free_of}
 use Rattle.lgm_route.proofs.preferred.preferred_in.Goals as goal
+use Rattle.lgm_route.proofs.preferred.preferred_in.Goals.{else-are_none-via-then-are_none+else-len-eq0, else-are_none-via-else-are_none}
 
-pub returns-in_err-route-clause-answer : goal.returns-in_err-route-clause-answer
-returns-in_err-route-clause-answer g c =
-    let graph = g.V.RoutingGraph.graph c.args.graph.now in
-    let own : Preferences = c.in_ok-numbered.numbered.penalties in
-    let same : own ≡ c.args.preferences.now = ap (λ (n : NumberedRequest Preferences). n.penalties) c.in_ok-numbered.ensures.found.2 in
-    let p = err_from_is_err_and c.from_residual-in_err-route.result c.from_residual-in_err-route.ensures.1 in
-    rw (p.1, p.2)
-    (subst (λ s. IsPreferredAnswer (penalty_at s) c.args.limit.now.most_delay (point_edges graph) c.args.request.now
-    (Err (Fault c.in_err-route.field-0.0))) same
-    (preferred_err (penalty_at own) c.args.limit.now.most_delay (point_edges graph) c.args.request.now c.route_over.result
-    c.in_err-route.field-0.0 c.in_err-route.was (c.route_over.ensures (penalty_at own) (alike graph own))))
+pub returns-then-len-eq0-clause-answer : goal.returns-then-len-eq0-clause-answer
+returns-then-len-eq0-clause-answer g c =
+    let preferences = c.args.preferences.now in
+    let known = c.args.estimates.now in
+    c.plain_within.ensures.answer (penalty_at preferences known)
+    (free_of preferences known (sym c.are_none.ensures ∙ c.if-are_none.true) (omega (arith, c.len.ensures, c.if-len-eq0.true)))
 
-pub returns-clause-answer : goal.returns-clause-answer
-returns-clause-answer g c =
-    let graph = g.V.RoutingGraph.graph c.args.graph.now in
-    let own : Preferences = c.in_ok-numbered.numbered.penalties in
-    let same : own ≡ c.args.preferences.now = ap (λ (n : NumberedRequest Preferences). n.penalties) c.in_ok-numbered.ensures.found.2 in
-    subst (λ s. IsPreferredAnswer (penalty_at s) c.args.limit.now.most_delay (point_edges graph) c.args.request.now
-    (Ok c.in_ok-route.route)) same
-    (preferred_ok (penalty_at own) c.args.limit.now.most_delay (point_edges graph) c.args.request.now c.route_over.result
-    c.in_ok-route.route c.in_ok-numbered.ensures.allowed c.in_ok-route.was
-    (c.route_over.ensures (penalty_at own) (alike graph own)))
+pub returns-clause-beyond : goal.returns-clause-beyond
+returns-clause-beyond g c = λ none known cut.
+    elim c.else-are_none.branch [
+      | else-are_none-via-then-are_none+else-len-eq0 w ↦ absurd (omega (arith, w.len.ensures, w.if-len-eq0.false, ap length known))
+      | else-are_none-via-else-are_none w ↦ absurd (false≢true (sym w.if-are_none.false ∙ c.are_none.ensures
+          ∙ ap (λ (p : Preferences). nat_eq p.failure_msat 0 && nat_eq p.hop_msat 0) none))
+    ]

@@ -5,7 +5,7 @@ use Rattle.lgm_route.proofs.search.Search.new.Goals as goal
 
 pub invariant_of-result : goal.invariant_of-result
 invariant_of-result g c =
-    begun (g.V.RoutingGraph.graph c.args.view.now) (asked (g.P.Penalties.terms c.args.request.penalties) c.args.request) c.args.low c.args.upper_bound c.requires.listed c.requires.long
+    begun (g.V.RoutingGraph.graph c.args.view.now) (asked (g.P.Penalties.terms c.args.request.penalties) c.args.request) c.args.low c.args.upper_bound c.args.budget c.requires.hops c.requires.listed c.requires.long
     c.requires.low c.requires.small c.requires.upper_bound c.push.new.self.items
     (c.in_ok-push.ensures.items ∙ ap (λ ls. ls ++ c.at_payee.result ∷ []) c.new-labels.ensures.items
     ∙ ap (λ l. l ∷ []) c.at_payee.ensures) c.new-2.result.items c.new-2.ensures.items

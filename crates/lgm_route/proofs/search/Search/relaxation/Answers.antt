@@ -13,7 +13,7 @@ add-penalty-requires g c =
     let r = c.len-len.ensures.search.labelled.sound c.args.i within in (
       s.ground.request.amount,
       r.0,
-      omega (arith, r.1.long, c.len-len.ensures.search.labelled.few c.args.i within),
+      omega (arith, r.1.long, c.len-len.ensures.search.labelled.few c.args.i within, c.len-len.ensures.search.ground.hops),
       ap (λ (q : Ask). penalties q.terms s.ground.request.amount r.0) request ∙ r.1.spends
           ∙ sym (ap (λ (l : Label). l.penalty) c.requires.label),
     )
@@ -43,7 +43,7 @@ returns g c =
     (omega (arith, amount, c.if-request-edge.false)) (omega (arith, c.if-edge-label.false))
     (λ from. absurd (c.if-edge-request.false (from ∙ ap (λ (r : Ask). r.payer) (sym request))))
     (λ other. (
-      omega (arith, c.if-label-ge-MOST_EDGES.false),
+      omega (arith, c.if-label-request.false, ap (λ (r : Ask). r.hops) request),
       ap (λ f. label.amount + f) c.fee.ensures.value,
       c.add-penalty.ensures ∙ ap (λ (r : Ask). label.penalty + penalty_of r.terms c.args.edge.now label.amount) request,
       c.in_ok-delay.ensures.0,

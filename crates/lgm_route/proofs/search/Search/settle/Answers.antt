@@ -1,5 +1,6 @@
-use Rattle.std.proofs.Common.{◌+◌, ◌∙◌, ap, arith}
+use Rattle.std.proofs.Common.{◌+◌, ◌∙◌, ap, subst, arith}
 use Rattle.lgm_route.specs.inner.Searching.{cost, number_at}
+use Rattle.lgm_route.specs.inner.SearchState.{Extends}
 use Rattle.lgm_route.proofs.Searches.{extends-trans, settled_vain, settled_by}
 use Rattle.lgm_route.proofs.search.Search.settle.Goals as goal
 
@@ -11,13 +12,14 @@ mark-requires-clause-settled g c =
 
 pub mark-requires-2-clause-settled : goal.mark-requires-2-clause-settled
 mark-requires-2-clause-settled g c =
-    settled_by c.args.self.now c.close.new.self c.args.i c.dominator-place.result c.label-label.ensures.search
-    c.is_done-2.ensures.search c.in_ok-close.ensures.extends c.requires
+    settled_by c.args.self.now c.close.new.self c.args.i c.dominator-place.result.0 c.label-label.ensures.search
+    c.is_done-2.ensures.search (subst (λ s. Extends s c.close.new.self) c.spend.ensures.same c.in_ok-close.ensures.extends) c.requires
     c.dominator-place.ensures c.in_ok-close.ensures.here
 
 pub returns-clause-extends : goal.returns-clause-extends
 returns-clause-extends g c =
-    extends-trans c.args.self.now c.close.new.self c.mark-2.new.self c.in_ok-close.ensures.extends c.in_ok-mark-2.ensures.extends
+    extends-trans c.args.self.now c.close.new.self c.mark-2.new.self
+    (subst (λ s. Extends s c.close.new.self) c.spend.ensures.same c.in_ok-close.ensures.extends) c.in_ok-mark-2.ensures.extends
 
 pub returns-in_err-close-clause-pruned : goal.returns-in_err-close-clause-pruned
 returns-in_err-close-clause-pruned g c pruned =

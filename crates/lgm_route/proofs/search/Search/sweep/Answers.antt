@@ -2,8 +2,8 @@ use Rattle.std.proofs.Common.{arith}
 use Rattle.lgm_route.proofs.Searches.{extends-trans, marked_more, finished}
 use Rattle.lgm_route.proofs.search.Search.sweep.Goals as goal
 
-pub returns-then-len-i : goal.returns-then-len-i
-returns-then-len-i g c = (
+pub returns-then-len-i-clause-finished : goal.returns-then-len-i-clause-finished
+returns-then-len-i-clause-finished g c = (
   c.loop-i.invariant.extends.ground,
   finished c.loop-i.self c.len.ensures.search (λ i within. c.loop-i.invariant.marked i (omega (arith, within, c.if-len-i.true, c.len.ensures.count))),
 )
@@ -16,8 +16,8 @@ loop-i-preserved g c = record {
       c.loop-i.invariant.marked c.in_ok-settle.ensures.here;
 }
 
-pub returns : goal.returns
-returns g c = (
+pub returns-clause-finished : goal.returns-clause-finished
+returns-clause-finished g c = (
   c.loop-i.invariant.extends.ground,
   finished c.loop-i.self c.len-len.ensures.search (λ i within. c.loop-i.invariant.marked i
       (omega (arith, within, c.loop-i-test.false, c.len-len.ensures.count, c.len-len.type_inv))),

@@ -1,0 +1,47 @@
+//! Limits of a route, and of the search for it.
+
+ghost use Rattle.std.specs.Prelude.{◌≡◌, ◌-◌, ◌^◌};
+ghost use Rattle.lgm_route.specs.Preferred.{no_limits};
+
+/// Limits of a payment's route.
+#[derive(Clone, Copy, Debug, PartialEq, Eq)]
+pub struct RouteLimits {
+    /// The maximum delay, in blocks, if there is one: the sum of `cltv_expiry_delta` of all channels but the first, which is
+    /// the payer's own.
+    pub most_delay: Option<u16>,
+    /// The maximum number of channels. There are never more than 20.
+    pub most_hops: u8,
+}
+
+impl RouteLimits {
+    /// Up to 20 channels, with any delay.
+    pub fn none() -> RouteLimits
+        ensures { result ≡ no_limits }
+    {
+        RouteLimits {
+            most_delay: None,
+            most_hops: 20,
+        }
+    }
+}
+
+/// What may be spent on a search. If a maximum is reached, the answer is the best route that was found so far.
+#[derive(Clone, Copy, Debug, PartialEq, Eq)]
+pub struct SearchBudget {
+    /// The maximum number of labels, each of 40 bytes; 2^64 - 1 for any number.
+    pub most_labels: usize,
+    /// The maximum number of steps: edges looked at, and labels compared; 2^64 - 1 for any number.
+    pub most_steps: u64,
+}
+
+impl SearchBudget {
+    /// Any number of labels and steps.
+    pub fn any() -> SearchBudget
+        ensures { result ≡ record { most_labels = 2 ^ 64 - 1; most_steps = 2 ^ 64 - 1 } }
+    {
+        SearchBudget {
+            most_labels: usize::MAX,
+            most_steps: u64::MAX,
+        }
+    }
+}

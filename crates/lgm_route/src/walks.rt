@@ -1,0 +1,153 @@
+//! The best walk between numbered nodes.
+
+ghost use Rattle.std.specs.Prelude.{◌≡◌, ◌≤◌, ◌^◌, IfOk, IfErr};
+ghost use Rattle.std.specs.Option.{option_map};
+ghost use Rattle.lgm_graph.specs.Graph.{edges, AreListed};
+ghost use Rattle.lgm_route.specs.inner.Best.{IsBestWalk, IsWalkFound};
+ghost use Rattle.lgm_route.specs.inner.Numbered.{asked};
+ghost use Rattle.lgm_route.specs.inner.SearchState.{IsBegun, IsFinished, IsHalted};
+ghost use Rattle.lgm_route.specs.inner.Searching.{IsUpperBound};
+
+use crate::bounds::lower_bounds;
+use crate::fault::RouteFault;
+use crate::found::{SearchFault, WalkFound};
+use crate::halt::Halt;
+use crate::limits::SearchBudget;
+use crate::penalties::Penalties;
+use crate::request::NumberedRequest;
+use crate::search::Search;
+use lgm_graph::{Edge, RoutingGraph};
+use lgm_par::{Gate, Pool};
+use std::alloc::{AllocError, Global};
+use std::thread::Threads;
+
+/// A new search, within a budget.
+fn begin<'a, V: RoutingGraph, P: Penalties>(
+    alloc: Global,
+    view: &'a V,
+    request: &NumberedRequest<P>,
+    budget: SearchBudget,
+) -> Result<Search<'a, V, P>, AllocError>
+    requires { (1 ≤ request.now.most_hops) × (request.now.most_hops ≤ 20) }
+    ensures { IfOk result (λ search.
+        IsBegun (V.graph view.entry.now) (asked (P.terms request.now.penalties) request.now) budget search) }
+{
+    let _nodes = view.nodes();
+    let upper_bound = most_sent(view, request);
+    let low = lower_bounds(alloc, view, request)?;
+    let search = Search::new(alloc, view, *request, low, upper_bound, budget)?;
+    Ok(search)
+}
+
+/// The best walk between numbered nodes, if one is usable.
+pub(crate) fn best_walk<V: RoutingGraph, P: Penalties>(
+    alloc: Global,
+    view: &V,
+    request: &NumberedRequest<P>,
+) -> Result<Option<Vec<Edge>>, AllocError>
+    requires { (1 ≤ request.now.most_hops) × (request.now.most_hops ≤ 20) }
+    ensures { IfOk result (λ best. IsBestWalk (edges (V.graph view.now))
+        (asked (P.terms request.now.penalties) request.now) (option_map (λ walk. walk.items) best)) }
+{
+    let mut search = begin(alloc, view, request, SearchBudget::any())?;
+    match finish(alloc, &mut search) {
+        Ok(()) => search.best_walk(alloc),
+        Err(_) => Err(AllocError),
+    }
+}
+
+/// The best walk between numbered nodes within a budget, or, where that runs out, the best one so far.
+pub(crate) fn walk_within<V: RoutingGraph, P: Penalties>(
+    alloc: Global,
+    view: &V,
+    request: &NumberedRequest<P>,
+    budget: &SearchBudget,
+) -> Result<WalkFound, SearchFault>
+    requires { (1 ≤ request.now.most_hops) × (request.now.most_hops ≤ 20) }
+    ensures { IsWalkFound (edges (V.graph view.now)) (asked (P.terms request.now.penalties) request.now) budget.now result }
+{
+    let mut search = begin(alloc, view, request, *budget)?;
+    match finish(alloc, &mut search) {
+        Ok(()) => match search.best_walk(alloc)? {
+            Some(walk) => Ok(WalkFound {
+                walk,
+                is_best: true,
+            }),
+            None => Err(SearchFault::Fault(RouteFault::NoRoute)),
+        },
+        Err(Halt::NoMemory) => Err(SearchFault::Fault(RouteFault::NoMemory)),
+        Err(_) => match search.best_walk(alloc)? {
+            Some(walk) => Ok(WalkFound {
+                walk,
+                is_best: false,
+            }),
+            None => Err(SearchFault::Undecided),
+        },
+    }
+}
+
+/// Settles all labels of a search, best-first.
+fn finish<V: RoutingGraph, P: Penalties>(
+    alloc: Global,
+    search: &mut Search<'_, V, P>,
+) -> Result<(), Halt>
+    ensures finished { IfOk result (λ _. (search.new.ground ≡ search.old.ground) × IsFinished search.new) }
+    ensures halted { IfErr result (λ halt. IsHalted search.old search.new halt) }
+{
+    search.settle_best_first(alloc)?;
+    search.sweep()
+}
+
+/// The same, found by several workers.
+pub(crate) fn best_walk_chunked<
+    Rt: Threads + Sync,
+    G: Gate,
+    V: RoutingGraph + Sync,
+    P: Penalties + Sync,
+>(
+    pool: &Pool<'_, Rt, G>,
+    view: &V,
+    request: &NumberedRequest<P>,
+) -> Result<Option<Vec<Edge>>, AllocError>
+    requires { (1 ≤ request.now.most_hops) × (request.now.most_hops ≤ 20) }
+    ensures { IfOk result (λ best. IsBestWalk (edges (V.graph view.now))
+        (asked (P.terms request.now.penalties) request.now) (option_map (λ walk. walk.items) best)) }
+{
+    let mut search = begin(pool.alloc, view, request, SearchBudget::any())?;
+    match finish_chunked(pool, &mut search) {
+        Ok(()) => search.best_walk(pool.alloc),
+        Err(_) => Err(AllocError),
+    }
+}
+
+/// Settles all labels of a search, by several workers.
+fn finish_chunked<Rt: Threads + Sync, G: Gate, V: RoutingGraph + Sync, P: Penalties + Sync>(
+    pool: &Pool<'_, Rt, G>,
+    search: &mut Search<'_, V, P>,
+) -> Result<(), Halt>
+    ensures { IfOk result (λ _. (search.new.ground ≡ search.old.ground) × IsFinished search.new) }
+{
+    search.settle_chunked(pool)?;
+    search.sweep()
+}
+
+/// The greatest penalties of the edges of a walk, in msat.
+const MOST_PENALTIES: u128 = 20 << 40;
+
+/// An amount in msat above what any walk costs: its first edge carries at most the greatest maximum of the edges out of
+/// the payer.
+fn most_sent<V: RoutingGraph, P: Penalties>(view: &V, request: &NumberedRequest<P>) -> u128
+    requires hops { request.now.most_hops ≤ 20 }
+    requires listed { AreListed (V.graph view.now) }
+    ensures low { result ≤ 2 ^ 65 }
+    ensures upper_bound { IsUpperBound (edges (V.graph view.now)) (asked (P.terms request.now.penalties) request.now) result }
+{
+    let mut most = 0;
+    for edge in view.edges_leaving(request.payer) {
+        let max = edge.max as u128 + 1;
+        if most < max {
+            most = max;
+        }
+    }
+    most + MOST_PENALTIES
+}
