@@ -3,6 +3,7 @@
 ghost use Rattle.std.specs.Prelude.{◌<◌, length, All, IfOk, IfErr, IfSome};
 ghost use Rattle.lgm_route.specs.inner.SearchState.{Extends, IsHalted};
 
+use crate::bounds::Measure;
 use crate::entry::Entry;
 use crate::halt::Halt;
 use crate::label::cost;
@@ -200,7 +201,8 @@ impl Dives {
         }
     }
 
-    /// Dives from a label with this bound, if it is smaller than those before and the label's node is near the payer.
+    /// Dives from a label with this bound along the ways from the payer, if it is smaller than those before and the label's
+    /// node is near the payer.
     #[inline(always)]
     pub(crate) fn dive<V: RoutingGraph, P: Penalties>(
         &mut self,
@@ -212,14 +214,17 @@ impl Dives {
         ensures extends { IfOk result (λ _. Extends search.old search.new) }
         ensures halted { IfErr result (λ halt. IsHalted search.old search.new halt) }
     {
+        let node = search.label(i).node;
         if self.least <= excess_lower_bound
             || self.left == 0
-            || !search.is_near(search.label(i).node)
+            || search.channel_to(Measure::Fees, node).is_none()
         {
             return Ok(());
         }
         self.least = excess_lower_bound;
         self.left -= 1;
-        search.dive(i)
+        search.dive(i, Measure::Fees)?;
+        search.dive(i, Measure::Delays)?;
+        Ok(())
     }
 }

@@ -5,6 +5,7 @@ ghost use Rattle.lgm_route.specs.inner.Searching.{label_at, first_of};
 ghost use Rattle.lgm_route.specs.inner.Relaxations.{IsRelaxationOf};
 ghost use Rattle.lgm_route.specs.inner.SearchState.{Extends, IsHalted, IsIntoAt, IsRelaxationAt, IsRelaxedOn, IsLeftAt, bound_in};
 
+use crate::bounds::Measure;
 use crate::halt::Halt;
 use crate::label::{Label, cost};
 use crate::penalties::Penalties;
@@ -138,9 +139,9 @@ impl<'a, V: RoutingGraph, P: Penalties> Search<'a, V, P> {
         Ok(())
     }
 
-    /// Extends a label's rest along the cheapest way from the payer, as far as it is known, so that some walk is found
-    /// early.
-    pub(crate) fn dive(&mut self, i: usize) -> Result<(), Halt>
+    /// Extends a label's rest along the cheapest or the quickest way from the payer, as far as it is known, so that some walk
+    /// is found early.
+    pub(crate) fn dive(&mut self, i: usize, measure: Measure) -> Result<(), Halt>
         requires { i < length self.old.labels }
         ensures extends { IfOk result (λ _. Extends self.old self.new) }
         ensures halted { IfErr result (λ halt. IsHalted self.old self.new halt) }
@@ -150,7 +151,7 @@ impl<'a, V: RoutingGraph, P: Penalties> Search<'a, V, P> {
             let last = self.len();
             let label = self.label(here);
             let edges = self.edges_into(label.node);
-            let Some(at) = self.next_edge(label.node, edges) else {
+            let Some(at) = self.next_edge(measure, label.node, edges) else {
                 break;
             };
             let bound = self.bound();
@@ -164,10 +165,10 @@ impl<'a, V: RoutingGraph, P: Penalties> Search<'a, V, P> {
     }
 
     /// The index of the edge that leads to a node on the way from the payer, among those into the node.
-    fn next_edge(&self, node: u32, edges: &[Edge]) -> Option<usize>
+    fn next_edge(&self, measure: Measure, node: u32, edges: &[Edge]) -> Option<usize>
         ensures { IfSome result (λ at. at < length edges.now) }
     {
-        let over = self.channel_to(node)?;
+        let over = self.channel_to(measure, node)?;
         let mut low = 0;
         let mut high = edges.len();
         for _step in 0..64 {

@@ -10,7 +10,7 @@ ghost use Rattle.lgm_route.specs.inner.SearchState.{IsSearch, Extends, IsSettled
 ghost use Rattle.lgm_route.specs.inner.Best.{IsBestWalk, IsWalkSoFar};
 ghost use Rattle.std.specs.Option.{option_map};
 
-use crate::bounds::LowerBounds;
+use crate::bounds::{LowerBounds, Measure};
 use crate::halt::Halt;
 use crate::hops::rebuild;
 use crate::label::{Label, bound_of, cost, is_better};
@@ -178,14 +178,13 @@ impl<'a, V: RoutingGraph, P: Penalties> Search<'a, V, P> {
             .delay_over(label.delay, edge, self.low.delays.at(edge.from))
     }
 
-    /// The channel to a node on the cheapest way from the payer, if the node is near the payer.
-    pub(crate) fn channel_to(&self, node: u32) -> Option<Scid> {
-        self.low.fees.channel_to(node)
-    }
-
-    /// Whether a node is near the payer: then the forward search found a way to it.
-    pub(crate) fn is_near(&self, node: u32) -> bool {
-        self.low.fees.channel_to(node).is_some()
+    /// The channel to a node on the cheapest or the quickest way from the payer, if the node is near the payer: then the
+    /// forward search found a way to it. Without a limit of the delay none is the quickest.
+    pub(crate) fn channel_to(&self, measure: Measure, node: u32) -> Option<Scid> {
+        match measure {
+            Measure::Fees => self.low.fees.channel_to(node),
+            Measure::Delays => self.low.delays.channel_to(node),
+        }
     }
 
     /// The cost that a better walk is below.
