@@ -31,3 +31,4 @@ mod TouchedNodeLaws
 mod SayingLaws
 mod Laid
 mod OverlayViewLaws
+mod EstimateLaws

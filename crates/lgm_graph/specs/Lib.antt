@@ -1,4 +1,5 @@
 pub mod Fee
+pub mod Estimates
 pub mod Known
 pub mod Edges
 pub mod Graph

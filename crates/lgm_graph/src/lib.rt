@@ -3,12 +3,15 @@
 //! A [`View`] numbers the nodes of a map, and has the edges into and out of each node as consecutive lists, as a search
 //! for routes reads them. It is built from a map, or maintained while operations change the map. A node that requires
 //! unknown features takes no payments. A [`Network`] is a map with its view as one value, and a [`Replica`] one that is
-//! behind another. An [`Overlay`] is what a payer knows beside the map, and an
-//! [`OverlayView`] the view over it. A [`RoutingGraph`] is what a search reads. A [`Route`] is a walk over edges with what each [`Hop`] forwards.
+//! behind another. An [`Overlay`] is what a payer knows beside the map, and an [`OverlayView`] the view over it. A
+//! [`RoutingGraph`] is what a search reads. [`Estimates`] are what a payer has learnt of edges. A [`Route`] is a walk over
+//! edges with what each [`Hop`] forwards.
 #![tactic(auto)]
 
 mod edge;
 mod edges;
+mod estimate;
+mod estimates;
 mod fees;
 mod known;
 mod laws;
@@ -25,6 +28,8 @@ mod routing_graph;
 mod view;
 
 pub use edge::Edge;
+pub use estimate::{EdgeKey, Estimate, NO_ESTIMATE};
+pub use estimates::Estimates;
 pub use fees::fee;
 pub use known::Known;
 pub use laws::edges_are_directions;
