@@ -232,7 +232,11 @@ fn set(
 ) -> Result<(), Fault>
     ensures { Sets scid from.now estimate.now (status_of result) (Some held.old) (Some held.new) }
 {
-    held.set(Scid::from_u64(scid), &Point(*from), estimate_given(estimate))?;
+    held.set(
+        Scid::from_u64(scid),
+        &Point(*from),
+        estimate_given(estimate),
+    )?;
     Ok(())
 }
 
