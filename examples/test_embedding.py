@@ -120,7 +120,7 @@ def build(out, name, *words):
 def test_faults(out):
     """Calls that fail change nothing; and nothing is freed twice, leaked, or written past its end."""
     has_valgrind = runs("valgrind", "--quiet", "true")
-    for name in ("faults", "published", "attempts"):
+    for name in ("faults", "published", "attempts", "estimates"):
         build(out, name, "-g", "-Wl,--wrap=malloc,--wrap=realloc")
         report(name, output([out / name]) == b"ok\n")
         if has_valgrind:

@@ -5,7 +5,8 @@
  * and funding outputs. It finds routes for payments, with their payloads, and answers the queries and filters of peers.
  * A published map has what a map had when lgm_publish made it, for good: each thread that is to read while another one
  * extends the map has a handle of it. The same calls answer of both, but those that change a map return LGM_PUBLISHED of a
- * published one. docs/embedding.md is a guide; docs/protocol.md has the rules.
+ * published one. A handle of another kind (lgm_estimates) has what a payer has learnt of edges. docs/embedding.md is a
+ * guide; docs/protocol.md has the rules.
  *
  * What is proved holds for callers that meet these conditions, which nothing checks:
  *
@@ -19,7 +20,7 @@
  *   - A handle is used by one call at a time, from any thread: what it holds is proved to be `Send`. Calls from different
  *     threads on one handle are ordered by a lock, a thread's start or join, or a sequentially consistent atomic.
  *     Different handles need no order, also those that share a published map.
- *   - An open handle is freed by lgm_free before it goes out of scope; otherwise its memory leaks.
+ *   - An open handle is freed by lgm_free, or lgm_estimates_free, before it goes out of scope; otherwise its memory leaks.
  *   - A bool is true or false.
  *   - malloc, realloc and free are those of one allocator, and behave as the C standard says.
  *   - No call is made from a signal handler, or in the child of a fork of a process with threads.
@@ -40,8 +41,8 @@ extern "C" {
 #endif
 
 /*
- * What a call returns: LGM_OK, or the number of the first fault. After a fault the map is unchanged, and so are the
- * buffers, except for the lengths that are written with LGM_ROOM, and the node of lgm_node.
+ * What a call returns: LGM_OK, or the number of the first fault. After a fault the map is unchanged, or what is known of
+ * edges, and so are the buffers, except for the lengths that are written with LGM_ROOM, and the node of lgm_node.
  */
 enum {
     LGM_OK = 0,
@@ -96,7 +97,7 @@ enum {
     LGM_FULL = 105,
     /* The map was published, so it doesn't change. */
     LGM_PUBLISHED = 106,
-    /* There is none: no id or point above the given one, or no such update. */
+    /* There is none: no id or point above the given one, no such update, or no edge of which something is known. */
     LGM_NONE = 107
 };
 
@@ -238,6 +239,84 @@ typedef struct {
  */
 uint32_t lgm_route(lgm_map *map, const lgm_payment *payment, lgm_hop *hops, size_t hops_len,
                    uint8_t *payloads, size_t payloads_len, lgm_lengths *lengths);
+
+/*
+ * A handle of what a payer has learnt of edges, or none. All zeros are a closed handle. It has no chain, and is used beside
+ * any map. An edge is named by its id and the node that it leaves (`from`), which resolves the id among its own channels;
+ * whether a map has such an edge isn't asked.
+ */
+typedef struct {
+    bool is_open;
+    void *at;
+} lgm_estimates;
+
+/* What a payer believes of an edge. Of one of which nothing is known: 0, UINT64_MAX and 0. */
+typedef struct {
+    uint64_t least_msat;   /* it surely carries this much: up to it a payment has no penalty for a failure */
+    uint64_t most_msat;    /* it surely carries no more: the odds of a failure count on a balance up to it */
+    uint64_t penalty_msat; /* what the payer would rather pay than use it */
+} lgm_estimate_info;
+
+/*
+ * Opens a closed handle: nothing is known.
+ *
+ * LGM_OPEN; LGM_NO_MEMORY.
+ */
+uint32_t lgm_estimates_open(lgm_estimates *estimates);
+
+/* Frees what a handle has, if it is open, and closes the handle. */
+void lgm_estimates_free(lgm_estimates *estimates);
+
+/*
+ * Looks up what is believed of an edge, also if nothing is known of it.
+ *
+ * LGM_CLOSED.
+ */
+uint32_t lgm_estimate(lgm_estimates *estimates, uint64_t scid, const uint8_t from[33], lgm_estimate_info *estimate);
+
+/*
+ * Sets what is believed of an edge, whatever was known of it. LGM_NO_MEMORY comes only if nothing was, here and in the next
+ * two calls.
+ *
+ * LGM_CLOSED; LGM_NO_MEMORY.
+ */
+uint32_t lgm_estimates_set(lgm_estimates *estimates, uint64_t scid, const uint8_t from[33],
+                           const lgm_estimate_info *estimate);
+
+/*
+ * Notes that an edge carried an amount, as when a try fails at a later hop, or reaches the payee. It surely carries as much:
+ * `least_msat` and `most_msat` are raised to the amount, if they are less.
+ *
+ * LGM_CLOSED; LGM_NO_MEMORY.
+ */
+uint32_t lgm_estimates_carried(lgm_estimates *estimates, uint64_t scid, const uint8_t from[33], uint64_t amount_msat);
+
+/*
+ * Notes that an edge failed to carry an amount. It surely carries less: `least_msat` and `most_msat` are lowered to 1 msat
+ * below the amount, if they are more.
+ *
+ * LGM_CLOSED; LGM_NO_MEMORY.
+ */
+uint32_t lgm_estimates_failed(lgm_estimates *estimates, uint64_t scid, const uint8_t from[33], uint64_t amount_msat);
+
+/*
+ * Forgets what is known of an edge.
+ *
+ * LGM_CLOSED; LGM_NONE, if nothing was known of it.
+ */
+uint32_t lgm_estimates_forget(lgm_estimates *estimates, uint64_t scid, const uint8_t from[33]);
+
+/* The number of edges of which something is known, or 0 for a closed handle. */
+size_t lgm_estimates_count(lgm_estimates *estimates);
+
+/*
+ * Looks up the edge at a place below that number: its id, the node that it leaves, and what is believed of it. An edge of
+ * which something new is known comes last; lgm_estimates_forget changes the places.
+ *
+ * LGM_CLOSED; LGM_NONE, at a place where there is none.
+ */
+uint32_t lgm_estimates_at(lgm_estimates *estimates, size_t place, uint64_t *scid, uint8_t from[33],
+                          lgm_estimate_info *estimate);
 
 /*
  * An edge beside the map's, by the caller's word: a channel of the payer's own, announced or not, or a route hint of an

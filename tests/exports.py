@@ -24,6 +24,7 @@ HEADER = TOP / "include" / "lgm.h"
 SOURCES = TOP / "crates" / "lgm_c" / "src"
 # The names of structs in C, and of types in C and in ctypes.
 STRUCTS = {"LgmMap": "lgm_map", "LgmPayment": "lgm_payment", "LgmHop": "lgm_hop", "LgmLengths": "lgm_lengths",
+           "LgmEstimates": "lgm_estimates", "LgmEstimate": "lgm_estimate_info",
            "LgmEdge": "lgm_edge", "LgmLimit": "lgm_limit", "LgmPoint": "lgm_point",
            "LgmDirection": "lgm_direction", "LgmChannel": "lgm_channel_info", "LgmNode": "lgm_node_info"}
 TYPES = {"bool": ("bool", ctypes.c_bool), "u8": ("uint8_t", ctypes.c_uint8), "u16": ("uint16_t", ctypes.c_uint16),
@@ -101,12 +102,12 @@ def source_functions(text):
 
 
 def source_structs(text):
-    """The fields of each `repr(C)` struct, with the types of the sources; the handle's pointer is a field of its map."""
+    """The fields of each `repr(C)` struct, with the types of the sources; a pointer's field is one of its handle."""
     pattern = r"#\[repr\(C\)\]\s*#\[derive\([^)]*\)\]\s*pub struct (\w+) \{(.*?)\n\}"
     field = r"^\s*(?:pub(?:\(crate\))? )?(\w+): (.+),$"
     structs = {name: re.findall(field, re.sub(r"^\s*(?:ghost|///).*$", "", fields, flags=re.MULTILINE), flags=re.MULTILINE)
                for name, fields in re.findall(pattern, text, flags=re.DOTALL)}
-    inside = {"Handle": structs.pop("Handle")}
+    inside = {pointer: structs.pop(pointer) for pointer in ("Handle", "EstimatesHandle")}
     return {name: [one for entry in fields for one in inside.get(entry[1], [entry])] for name, fields in structs.items()}
 
 

@@ -32,6 +32,9 @@ CHANGES = (
     ("void lgm_free(", "void lgm_drop(", "function lgm_drop: "),
     ("bool is_first, uint64_t *scid", "bool is_first, uint32_t *scid", "function lgm_next_channel: "),
     ("lgm_share(lgm_map *published", "lgm_share(const lgm_map *published", "function lgm_share: "),
+    ("    uint64_t penalty_msat; ", "    uint32_t penalty_msat; ", "struct lgm_estimate_info: "),
+    ("lgm_estimates_at(lgm_estimates *estimates, size_t place", "lgm_estimates_at(lgm_estimates *estimates, uint32_t place",
+     "function lgm_estimates_at: "),
 )
 
 

@@ -1,4 +1,5 @@
-"""lgm, a verified map of Lightning gossip, from Python: a class `Map` over the shared library of include/lgm.h.
+"""lgm, a verified map of Lightning gossip, from Python: classes `Map` and `Estimates` over the shared library of
+include/lgm.h.
 
     with Map(chain=CHAIN) as network:
         network.offer(message, sig=ALL_FOUR, funding=100_000)
@@ -9,10 +10,16 @@ What a payer knows beside the map is passed with a payment, and what failed when
     limits = [Limit(hop.scid, hop.start, hop.amount_msat - 1)]   # of the hop that couldn't carry the amount
     route = network.route(.., edges=own_channels + hints, silent=[payer], limits=limits, most_delay=1_008)
 
+What it learns from its tries is kept in `Estimates`:
+
+    with Estimates() as estimates:
+        estimates.carried(hop.scid, hop.start, hop.amount_msat)   # of each hop before
+        estimates.failed(hop.scid, hop.start, hop.amount_msat)    # of the hop that couldn't carry the amount
+
 Messages, points, chains and secrets are `bytes`, `bytearray` or `memoryview`. An argument of another type raises
 TypeError, and one out of its range ValueError, before the library is called. A call that fails raises the class of its
-fault, such as `NotNewer`; all of these are subclasses of `Fault`. Any thread may use a `Map`: the calls of one wait for
-one another. Threads that are to read at once take a published map each, which never changes:
+fault, such as `NotNewer`; all of these are subclasses of `Fault`. Any thread may use a `Map`, and `Estimates`: the calls
+of one wait for one another. Threads that are to read at once take a published map each, which never changes:
 
     latest = network.publish()   # by the thread that changes the map
     mine = latest.share()        # by each thread that reads: it waits for nobody, and nobody for it
@@ -111,6 +118,16 @@ class Limit:
     scid: int
     start: bytes
     most_msat: int = 0
+
+
+@dataclass(frozen=True)
+class Estimate:
+    """What a payer believes of an edge, in msat: it surely carries `least_msat`, and no more than `most_msat`; and what the
+    payer would rather pay than use it. The defaults are what is believed of an edge of which nothing is known."""
+
+    least_msat: int = 0
+    most_msat: int = 2**64 - 1
+    penalty_msat: int = 0
 
 
 @dataclass(frozen=True)
@@ -254,45 +271,22 @@ ANNOUNCEMENT, UPDATE_1, UPDATE_2 = range(3)
 _KEPT = 1 << 20
 
 
-class Map:
-    """A map of one chain. Free it by `close`, or use it in a `with` statement.
+class _Handle:
+    """A handle of the library, whose calls wait for one another."""
 
-    One that `publish` or `share` returns is published: it never changes, and what would change it raises `Published`.
-    """
-
-    def __init__(self, chain, known=None, seed=None):
-        """`known` has the feature bits that are known, or is `None` if all are; `seed` is 16 random bytes."""
-        chain = _octets("a chain", chain, 32)
-        seed = _octets("a seed", os.urandom(16) if seed is None else seed, 16)
-        bits = b"" if known is None else _octets("known", known)
-        self._set_up()
-        _check(self._library.lgm_open(self._at, chain, known is None, bits, len(bits), seed))
+    _free = None  # the name of the call that frees it
 
     def _set_up(self):
-        """Sets a closed handle, with the lock and the buffers of its calls."""
+        """Sets a closed handle, with the lock of its calls."""
         self._lock = threading.Lock()
         self._handle = _Buffer(_c.SIZE_OF_HANDLE)
         self._at = self._handle.at
-        self._room = _Buffer(4096)
-        self._needed = ctypes.c_size_t()
-        self._needed_at = ctypes.addressof(self._needed)
-        self._hops = _Buffer(_c.MOST_HOPS * _c.HOP.size)
-        self._payloads = _Buffer(_c.MOST_PAYLOADS)
-        self._struct = _Buffer(max(_c.LENGTHS.size, _c.CHANNEL_LEN, _c.NODE.size))
         self._library = _load()
-        self._offer = self._library.lgm_offer
-
-    @classmethod
-    def _closed(cls):
-        """One whose handle a call is to open."""
-        made = cls.__new__(cls)
-        made._set_up()
-        return made
 
     @_alone
     def close(self):
-        """Frees the map. Later calls raise `Closed`."""
-        self._library.lgm_free(self._at)
+        """Frees what it has. Later calls raise `Closed`."""
+        getattr(self._library, self._free)(self._at)
 
     def __enter__(self):
         return self
@@ -304,14 +298,49 @@ class Map:
         if hasattr(self, "_library"):
             self.close()
 
+    def __bool__(self):
+        """It is true, also if its length is 0."""
+        return True
+
+
+class Map(_Handle):
+    """A map of one chain. Free it by `close`, or use it in a `with` statement.
+
+    One that `publish` or `share` returns is published: it never changes, and what would change it raises `Published`.
+    """
+
+    _free = "lgm_free"
+
+    def __init__(self, chain, known=None, seed=None):
+        """`known` has the feature bits that are known, or is `None` if all are; `seed` is 16 random bytes."""
+        chain = _octets("a chain", chain, 32)
+        seed = _octets("a seed", os.urandom(16) if seed is None else seed, 16)
+        bits = b"" if known is None else _octets("known", known)
+        self._set_up()
+        _check(self._library.lgm_open(self._at, chain, known is None, bits, len(bits), seed))
+
+    def _set_up(self):
+        """Sets a closed handle, with the lock and the buffers of its calls."""
+        super()._set_up()
+        self._room = _Buffer(4096)
+        self._needed = ctypes.c_size_t()
+        self._needed_at = ctypes.addressof(self._needed)
+        self._hops = _Buffer(_c.MOST_HOPS * _c.HOP.size)
+        self._payloads = _Buffer(_c.MOST_PAYLOADS)
+        self._struct = _Buffer(max(_c.LENGTHS.size, _c.CHANNEL_LEN, _c.NODE.size))
+        self._offer = self._library.lgm_offer
+
+    @classmethod
+    def _closed(cls):
+        """One whose handle a call is to open."""
+        made = cls.__new__(cls)
+        made._set_up()
+        return made
+
     @_alone
     def __len__(self):
         """The number of channels."""
         return self._library.lgm_count(self._at)
-
-    def __bool__(self):
-        """A map is true, also one without channels."""
-        return True
 
     def offer(self, message, sig=NOBODY, funding=NOT_ASKED):
         """Offers a gossip message, with the verdicts on it."""
@@ -493,3 +522,78 @@ class Map:
             messages.append(written[at + 8:end])
             at = end
         return messages
+
+
+def _packed_estimate(estimate):
+    if not isinstance(estimate, Estimate):
+        raise TypeError(f"an estimate is of the class Estimate, and not {type(estimate).__name__}")
+    return _c.ESTIMATE.pack(*(_number(name, getattr(estimate, name), below) for name, below in (
+        ("least_msat", 2**64), ("most_msat", 2**64), ("penalty_msat", 2**64))))
+
+
+class Estimates(_Handle):
+    """What a payer has learnt of edges. Free it by `close`, or use it in a `with` statement.
+
+    An edge is named by its id and the node that it leaves, its `start`, and needn't be in a map. The length is the number of
+    edges of which something is known.
+    """
+
+    _free = "lgm_estimates_free"
+
+    def __init__(self):
+        """Nothing is known."""
+        self._set_up()
+        self._scid, self._start, self._estimate = _Buffer(8), _Buffer(33), _Buffer(_c.ESTIMATE.size)
+        _check(self._library.lgm_estimates_open(self._at))
+
+    @_alone
+    def _call(self, call, scid, start, *arguments):
+        """What a call on an edge returns."""
+        return call(self._at, _number("an id", scid, 2**64), _octets("a point", start, 33), *arguments)
+
+    def set(self, scid, start, estimate):
+        """Sets what is believed of an edge, whatever was known of it."""
+        _check(self._call(self._library.lgm_estimates_set, scid, start, _packed_estimate(estimate)))
+
+    def carried(self, scid, start, amount_msat):
+        """Notes that an edge carried an amount: it surely carries as much."""
+        _check(self._call(self._library.lgm_estimates_carried, scid, start, _number("amount_msat", amount_msat, 2**64)))
+
+    def failed(self, scid, start, amount_msat):
+        """Notes that an edge failed to carry an amount: it surely carries less."""
+        _check(self._call(self._library.lgm_estimates_failed, scid, start, _number("amount_msat", amount_msat, 2**64)))
+
+    def forget(self, scid, start):
+        """Forgets what is known of an edge, and returns whether something was."""
+        number = self._call(self._library.lgm_estimates_forget, scid, start)
+        if number == _c.NONE:
+            return False
+        _check(number)
+        return True
+
+    @_alone
+    def get(self, scid, start):
+        """What is believed of an edge, also if nothing is known of it."""
+        scid, start = _number("an id", scid, 2**64), _octets("a point", start, 33)
+        _check(self._library.lgm_estimate(self._at, scid, start, self._estimate.at))
+        return Estimate(*_c.ESTIMATE.unpack_from(self._estimate.bytes))
+
+    @_alone
+    def __len__(self):
+        """The number of edges of which something is known."""
+        return self._library.lgm_estimates_count(self._at)
+
+    def __iter__(self):
+        """Each edge of which something is known now: its id, the node that it leaves, and what is believed of it."""
+        return iter(self._entries())
+
+    @_alone
+    def _entries(self):
+        """All of them."""
+        return [self._entry(place) for place in range(self._library.lgm_estimates_count(self._at))]
+
+    def _entry(self, place):
+        """The one at a place."""
+        _check(self._library.lgm_estimates_at(self._at, place, self._scid.at, self._start.at, self._estimate.at))
+        scid = int.from_bytes(self._scid.front(8), sys.byteorder)
+        return scid, self._start.front(33), Estimate(*_c.ESTIMATE.unpack_from(self._estimate.bytes))

@@ -20,6 +20,7 @@ EDGE = struct.Struct("@QQQIIH33s33s0Q")
 LIMIT = struct.Struct("@QQ33s0Q")
 HOP = struct.Struct("@QQNI33s33s0Q")
 LENGTHS = struct.Struct("@NN")
+ESTIMATE = struct.Struct("@QQQ")
 DIRECTION = struct.Struct("@?BBHIIIQQ")
 CHANNEL = struct.Struct("@Q33s33s0Q")
 CHANNEL_LEN = CHANNEL.size + 2 * DIRECTION.size
@@ -44,6 +45,15 @@ CALLS = {
     "lgm_count": (SIZE, [AT]),
     "lgm_route": (U32, [AT, BYTES, AT, SIZE, AT, SIZE, AT]),
     "lgm_route_over": (U32, [AT, BYTES, BYTES, SIZE, BYTES, SIZE, BYTES, SIZE, ctypes.c_uint16, AT, SIZE, AT, SIZE, AT]),
+    "lgm_estimates_open": (U32, [AT]),
+    "lgm_estimates_free": (None, [AT]),
+    "lgm_estimate": (U32, [AT, U64, BYTES, AT]),
+    "lgm_estimates_set": (U32, [AT, U64, BYTES, BYTES]),
+    "lgm_estimates_carried": (U32, [AT, U64, BYTES, U64]),
+    "lgm_estimates_failed": (U32, [AT, U64, BYTES, U64]),
+    "lgm_estimates_forget": (U32, [AT, U64, BYTES]),
+    "lgm_estimates_count": (SIZE, [AT]),
+    "lgm_estimates_at": (U32, [AT, SIZE, AT, AT, AT]),
     "lgm_query": (U32, ANSWERING),
     "lgm_filter": (U32, ANSWERING),
     "lgm_news": (U32, ANSWERING),

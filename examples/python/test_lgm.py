@@ -16,7 +16,7 @@ import lgm
 
 CHAIN, POINT, SECRET = bytes(32), b"\2" + bytes(32), bytes(32)
 PAYMENT = {"payer": POINT, "payee": POINT, "amount_msat": 1, "expiry": 1, "secret": SECRET}
-EDGE, LIMIT = lgm.Edge(1, POINT, POINT), lgm.Limit(1, POINT)
+EDGE, LIMIT, ESTIMATE = lgm.Edge(1, POINT, POINT), lgm.Limit(1, POINT), lgm.Estimate(1, 2, 3)
 
 
 class Stub:
@@ -40,6 +40,11 @@ def over_edge(network, name):
 def over_limit(network, name):
     """The same over a limit."""
     return lambda value: network.route(**PAYMENT, limits=[replace(LIMIT, **{name: value})])
+
+
+def over_estimate(estimates, name):
+    """An estimate with a value in one of its fields."""
+    return lambda value: estimates.set(1, POINT, replace(ESTIMATE, **{name: value}))
 
 
 def refusal(call, *arguments, **named):
@@ -90,6 +95,29 @@ def bytes_have_types_and_lengths(network):
         assert refusal(call, bytes(31)) is refusal(call, bytes(34)) is wanted, number
 
 
+def estimates_are_of_edges(estimates):
+    """An edge has an id and a point, an estimate its class, and each number its range."""
+    calls = (lambda scid: estimates.get(scid, POINT), lambda scid: estimates.forget(scid, POINT),
+             lambda scid: estimates.set(scid, POINT, ESTIMATE), lambda scid: estimates.carried(scid, POINT, 1),
+             lambda scid: estimates.failed(scid, POINT, 1), lambda msat: estimates.carried(1, POINT, msat),
+             lambda msat: estimates.failed(1, POINT, msat), over_estimate(estimates, "least_msat"),
+             over_estimate(estimates, "most_msat"))
+    for call, below in (*((call, 2**64) for call in calls), (over_estimate(estimates, "penalty_msat"), 2**64)):
+        for value in (-1, below):
+            assert refusal(call, value) is ValueError
+        for value in (1.0, True, None, b"1"):
+            assert refusal(call, value) is TypeError
+    for call in (lambda point: estimates.get(1, point), lambda point: estimates.forget(1, point),
+                 lambda point: estimates.set(1, point, ESTIMATE), lambda point: estimates.carried(1, point, 1),
+                 lambda point: estimates.failed(1, point, 1)):
+        for value in ("00" * 33, 33, None):
+            assert refusal(call, value) is TypeError
+        for value in (bytes(32), bytes(34)):
+            assert refusal(call, value) is ValueError
+    for value in (LIMIT, (1, 2, 3), None):
+        assert refusal(estimates.set, 1, POINT, value) is TypeError
+
+
 def verdicts_are_named(network):
     """A verdict that is none is told."""
     for sig in ("ALL", "02" + "00" * 32, ""):
@@ -125,6 +153,18 @@ def what_a_payer_knows_is_packed(library, network):
         assert lgm._c.EDGE.unpack_from(edges, 104) == (1, 0, 2**64 - 1, 0, 0, 0, POINT, POINT) and len(edges) == 2 * 104
         assert lgm._c.LIMIT.unpack(limits) == (5, 6, POINT) and len(limits) == 56
         assert silent == POINT + CHAIN + b"7"
+
+
+def what_is_believed_is_packed(library, estimates):
+    """An estimate comes to the library as C has it, with the id and the point of its edge."""
+    del library.calls[:]
+    estimates.set(2**64 - 1, bytearray(POINT), lgm.Estimate(1, 2, 2**64 - 1))
+    estimates.set(0, POINT, lgm.Estimate())
+    (*first, known), (*_, unknown) = library.calls
+    assert first == ["lgm_estimates_set", 2**64 - 1, POINT]
+    assert lgm._c.ESTIMATE.unpack(known) == (1, 2, 2**64 - 1) and len(known) == 24
+    assert lgm._c.ESTIMATE.unpack(unknown) == (0, 2**64 - 1, 0)
+    assert bool(estimates) and len(estimates) == 0 and list(estimates) == []
 
 
 class Writer(Stub):
@@ -177,17 +217,19 @@ def main():
     """Runs each test, and looks that nothing refused came to the library."""
     library = Stub()
     lgm._load = lambda: library
-    network = lgm.Map(CHAIN)
+    network, estimates = lgm.Map(CHAIN), lgm.Estimates()
     refusing = (numbers_have_ranges, bytes_have_types_and_lengths, verdicts_are_named, lists_have_classes)
     for test in refusing:
         test(network)
-    assert {name for name, *_ in library.calls} <= {"lgm_open", "lgm_free"}
+    estimates_are_of_edges(estimates)
+    assert {name for name, *_ in library.calls} <= {"lgm_open", "lgm_free", "lgm_estimates_open"}
     bytes_of_any_kind_are_taken(network, library)
     what_a_payer_knows_is_packed(library, network)
+    what_is_believed_is_packed(library, estimates)
     a_map_is_true(network)
     ids_have_parts()
     large_buffers_are_given_back()
-    print(f"{len(refusing) + 5} passed")
+    print(f"{len(refusing) + 7} passed")
 
 
 if __name__ == "__main__":

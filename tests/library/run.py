@@ -18,7 +18,7 @@ sys.dont_write_bytecode = True  # the repository gets no made files
 
 TOP = Path(__file__).resolve().parents[2]
 SHARED_OBJECT = Path(sys.argv[1]).resolve() if len(sys.argv) > 1 else TOP / "examples/out/liblgm.so"
-FILES = ("each_call", "attempts", "bounds", "listing", "published", "wanted")
+FILES = ("each_call", "attempts", "bounds", "estimates", "listing", "published", "wanted")
 
 
 def all_tests():

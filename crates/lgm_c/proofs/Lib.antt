@@ -1,5 +1,6 @@
 mod Values
 mod MapValues
+mod EstimatesValues
 mod Outcomes
 mod Unwanted
 mod Mended

@@ -24,14 +24,14 @@ Handle = handle.the_row
 
 module _ {M : Type 1} {𝓤 : Ura M} {𝓛 : Logic 𝓤} {K : Type 0} {Γ : List (Item 𝓤)} {G : Goal 𝓤 𝓛.H} where
   pub handle_out : K → (d : Handle.Denot) (vs : List Val)
-      → (vs ≡ one d.at ∷ [] → Seq K 𝓛 (‵ (owns_box d.at d.value) ∷ Γ) G)
+      → (vs ≡ one d.at ∷ [] → Seq K 𝓛 (‵ (owns_box R d.at d.value) ∷ Γ) G)
       → Seq K 𝓛 (‵ (Handle.own_val d vs) ∷ Γ) G
   handle_out t d vs k =
       fsplit t $ fpick t (λ vss. fsplit t $ feq_l t (λ ev. fsplit t $ feq_l t
       (λ ep. drop t $ k (subst (λ (ps : List Val). vs ≡ vstruct (of_list (ps ++ [])) ∷ []) ep ev))))
 
   pub handle_in : K → (p : Ptr) (x : Option R.Denot)
-      → Step K 𝓛 (‵ (Handle.own_val (record { at = p; value = x }) (one p ∷ [])) ∷ Γ) G (‵ (owns_box p x) ∷ Γ) G
+      → Step K 𝓛 (‵ (Handle.own_val (record { at = p; value = x }) (one p ∷ [])) ∷ Γ) G (‵ (owns_box R p x) ∷ Γ) G
   handle_in t p x = step (λ s. let v : Val = one p in
       nothing t $ feq_i t (List Val) (ptr_val p ∷ []) (ptr_val p ∷ []) refl $ fjoin t $ feq_i t (List Val) (v ∷ []) (v ∷ []) refl $ fjoin t $
       fpack t (Valss (RawPtr ∷ [])) (within (shape handle.the_type) (p, tt) (v ∷ [])) (ptr_val p ∷ [], tt) $ fjoin t $ s)

@@ -12,5 +12,6 @@ pub mod Routing
 pub mod Attempts
 pub mod Looking
 pub mod Listing
+pub mod Estimating
 pub mod Words
 pub mod inner

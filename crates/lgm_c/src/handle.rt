@@ -17,9 +17,9 @@ pub struct Handle {
 }
 
 impl Model for Handle {
-    ghost use Rattle.lgm_c.specs.inner.Handle.{owns_box};
+    ghost use Rattle.lgm_c.specs.inner.Handle.{owns_map};
 
-    ghost also_owns = { λ h. owns_box h.at h.value };
+    ghost also_owns = { λ h. owns_map h.at h.value };
 }
 
 impl Handle {

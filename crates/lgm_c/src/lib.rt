@@ -15,6 +15,8 @@ mod changes;
 mod changing_map;
 mod current;
 mod edition;
+mod estimates;
+mod estimates_handle;
 mod evidence;
 mod fault;
 mod frames;

@@ -2,7 +2,7 @@
 //!
 //!     cargo run --offline --example calls
 
-use lgm::{Edge, Fault, Funding, Limit, Map, Overlay, Payment, Sig, Which};
+use lgm::{Edge, Estimate, Estimates, Fault, Funding, Limit, Map, Overlay, Payment, Sig, Which};
 
 const CHAIN: [u8; 32] = [0xc1; 32];
 const SEED: [u8; 16] = [7; 16];
@@ -120,10 +120,26 @@ fn overlays() -> Result<(), Fault> {
     Ok(())
 }
 
+fn estimates() -> Result<(), Fault> {
+    let mut estimates = Estimates::new()?;
+    assert_eq!((estimates.count(), estimates.at(0), estimates.get(SCID, &A)), (0, None, Estimate::default()));
+    estimates.carried(SCID, &A, 500)?;
+    estimates.failed(SCID, &A, 900)?;
+    let own = Estimate { least_msat: 1, most_msat: 2, penalty_msat: 3 };
+    estimates.set(SCID, &B, &own)?;
+    let tried = Estimate { least_msat: 500, most_msat: 899, penalty_msat: 0 };
+    assert_eq!((estimates.get(SCID, &A), estimates.get(SCID, &B)), (tried, own));
+    assert_eq!((estimates.at(0), estimates.at(1)), (Some((SCID, A, tried)), Some((SCID, B, own))));
+    assert!(estimates.forget(SCID, &A) && !estimates.forget(SCID, &A));
+    assert_eq!((estimates.count(), estimates.at(0), estimates.at(1)), (1, Some((SCID, B, own)), None));
+    Ok(())
+}
+
 fn main() -> Result<(), Fault> {
     lists()?;
     published_maps()?;
     overlays()?;
+    estimates()?;
     println!("ok");
     Ok(())
 }

@@ -4,17 +4,19 @@
 //! one call at a time, and is freed when the [`Map`] is dropped. A `Map` is `Send` and `Sync`. Threads that read beside one
 //! that changes a map take a published one each, by [`Map::publish`] and [`Map::share`].
 
+mod estimates;
 mod raw;
 
 use std::fmt;
 use std::sync::{Mutex, MutexGuard, PoisonError};
 
-pub use raw::{Edge, Limit};
+pub use estimates::Estimates;
+pub use raw::{Edge, Estimate, Limit};
 
 /// A compressed public key.
 pub type Point = [u8; 33];
 
-/// Why a call failed, by its number (`include/lgm.h`). The map is unchanged.
+/// Why a call failed, by its number (`include/lgm.h`). The map is unchanged, or the estimates.
 #[derive(Clone, Copy, Debug, PartialEq, Eq)]
 pub struct Fault(pub u32);
 
@@ -366,6 +368,7 @@ impl Drop for Map {
 const _: () = {
     const fn is_shared<T: Send + Sync>() {}
     is_shared::<Map>();
+    is_shared::<Estimates>();
 };
 
 /// A map in a handle that a call opens.

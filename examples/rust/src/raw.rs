@@ -3,7 +3,7 @@
 use std::ffi::c_void;
 use std::ptr;
 
-/// A handle of a map.
+/// A handle, of a map or of estimates: both have this form.
 #[repr(C)]
 #[derive(Debug)]
 pub struct Handle {
@@ -63,6 +63,24 @@ pub struct Limit {
     pub most_msat: u64,
     /// The node that the edge leaves.
     pub from: [u8; 33],
+}
+
+/// What a payer believes of an edge. The default is what is believed of an edge of which nothing is known.
+#[repr(C)]
+#[derive(Clone, Copy, Debug, PartialEq, Eq)]
+pub struct Estimate {
+    /// It surely carries this much, in msat: up to it a payment has no penalty for a failure.
+    pub least_msat: u64,
+    /// It surely carries no more than this, in msat: the odds of a failure count on a balance up to it.
+    pub most_msat: u64,
+    /// What the payer would rather pay than use it, in msat.
+    pub penalty_msat: u64,
+}
+
+impl Default for Estimate {
+    fn default() -> Estimate {
+        Estimate { least_msat: 0, most_msat: u64::MAX, penalty_msat: 0 }
+    }
 }
 
 /// The delay of a route that may have any.
@@ -182,6 +200,21 @@ unsafe extern "C" {
         payloads: *mut u8,
         payloads_len: usize,
         lengths: *mut Lengths,
+    ) -> u32;
+    pub fn lgm_estimates_open(estimates: *mut Handle) -> u32;
+    pub fn lgm_estimates_free(estimates: *mut Handle);
+    pub fn lgm_estimate(estimates: *mut Handle, scid: u64, from: *const [u8; 33], estimate: *mut Estimate) -> u32;
+    pub fn lgm_estimates_set(estimates: *mut Handle, scid: u64, from: *const [u8; 33], estimate: *const Estimate) -> u32;
+    pub fn lgm_estimates_carried(estimates: *mut Handle, scid: u64, from: *const [u8; 33], amount_msat: u64) -> u32;
+    pub fn lgm_estimates_failed(estimates: *mut Handle, scid: u64, from: *const [u8; 33], amount_msat: u64) -> u32;
+    pub fn lgm_estimates_forget(estimates: *mut Handle, scid: u64, from: *const [u8; 33]) -> u32;
+    pub fn lgm_estimates_count(estimates: *mut Handle) -> usize;
+    pub fn lgm_estimates_at(
+        estimates: *mut Handle,
+        place: usize,
+        scid: *mut u64,
+        from: *mut [u8; 33],
+        estimate: *mut Estimate,
     ) -> u32;
     pub fn lgm_publish(map: *mut Handle, published: *mut Handle) -> u32;
     pub fn lgm_share(published: *mut Handle, other: *mut Handle) -> u32;
