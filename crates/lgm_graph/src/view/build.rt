@@ -13,7 +13,7 @@ ghost use Rattle.lgm_graph.specs.inner.Sound.{ShowsIn};
 ghost use Rattle.lgm_graph.specs.inner.Walk.{AreEdgesOf, HasNumbered, KeepsNumbers, edges_of_channel};
 
 use super::number_cache::NumberCache;
-use super::{MAX_CHANNELS, View};
+use super::{MAX_CHANNELS, Parts, View};
 use crate::edge::{Edge, edge_on};
 use crate::known::Known;
 use crate::nodes::{Nodes, takes_payments};
@@ -40,10 +40,13 @@ impl View {
         }
         put_edges(alloc, &mut nodes, &edges)?;
         let known = known.copy(alloc)?;
-        Ok(View {
+        let parts = Parts {
             alloc,
             known,
             nodes,
+        };
+        Ok(View {
+            parts: Box::new(alloc, parts)?,
         })
     }
 }

@@ -1,10 +1,11 @@
 use Rattle.std.proofs.Common.{[], ◌∙◌, arith, length, length-append, ap, sym, subst}
 use Rattle.lgm_graph.specs.Edges.{carrying, takes_payments}
 use Rattle.lgm_graph.specs.Graph.{IsGraphOf}
-use Rattle.lgm_graph.specs.inner.Sound.{graph_in}
+use Rattle.lgm_graph.specs.inner.Sound.{graph_in, IsSound}
 use Rattle.lgm_graph.specs.inner.Walk.{AreEdgesOf, HasWalked}
 use Rattle.lgm_graph.proofs.PushedEdgeLaws.{nodes_long}
 use Rattle.lgm_graph.proofs.Walked.{walked_own, walked_more, walked_all}
+use Rattle.lgm_graph.proofs.view.Opened.{graph_of}
 use Rattle.lgm_graph.proofs.view.View.of.Goals as goal
 
 pub add_channel-requires-clause-own : goal.add_channel-requires-clause-own
@@ -38,18 +39,19 @@ invariant_of-result c =
     c.loop-stored.nodes)) c.in-None.ensures.steps.0 c.loop-stored.invariant) c.in_ok-put_edges.ensures.points
     (λ accepts bare edges are. c.in_ok-put_edges.ensures.shows accepts bare edges
     (subst (AreEdgesOf edges c.loop-stored.nodes.points.keys) (sym c.deref.ensures.value) are)) in
-    record {
+    subst (λ parts. IsSound (graph_of parts)) (sym c.in_ok-new.ensures.ok) (record {
       few = omega (arith, c.requires, walked.few, all, ap length points);
       accepts = takes_payments c.args.known.now c.args.map.now.nodes;
       edges = carrying c.args.map.now;
       shows = beside.shows;
-    }
+    })
 
 pub returns-clause-beside : goal.returns-clause-beside
 returns-clause-beside c =
-    subst (λ k. IsGraphOf c.args.map.now (graph_in k c.put_edges.new.nodes)) (sym c.in_ok-known.ensures)
+    subst (λ parts. IsGraphOf c.args.map.now (graph_of parts)) (sym c.in_ok-new.ensures.ok)
+    (subst (λ k. IsGraphOf c.args.map.now (graph_in k c.put_edges.new.nodes)) (sym c.in_ok-known.ensures)
     (walked_all c.args.known.now c.args.map.now c.loop-stored.edges.items c.loop-stored.nodes c.put_edges.new.nodes c.rows_are_lawful.ensures.ascend
     (subst (λ left. HasWalked c.args.map.now left c.loop-stored.edges.items (graph_in c.args.known.now
     c.loop-stored.nodes)) c.in-None.ensures.steps.0 c.loop-stored.invariant) c.in_ok-put_edges.ensures.points
     (λ accepts bare edges are. c.in_ok-put_edges.ensures.shows accepts bare edges
-    (subst (AreEdgesOf edges c.loop-stored.nodes.points.keys) (sym c.deref.ensures.value) are)))
+    (subst (AreEdgesOf edges c.loop-stored.nodes.points.keys) (sym c.deref.ensures.value) are))))
