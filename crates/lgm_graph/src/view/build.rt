@@ -30,24 +30,20 @@ impl View {
         ensures few { IfOk result (λ view. length view.points ≤ 2 * length map.now.channels) }
     {
         map.rows_are_lawful();
-        let mut nodes = Nodes::new(alloc, map.seed());
+        let parts = Parts {
+            alloc,
+            known: known.copy(alloc)?,
+            nodes: Nodes::new(alloc, map.seed()),
+        };
+        let mut parts = Box::new(alloc, parts)?;
+        let nodes = &mut parts.nodes;
         let mut cache = NumberCache::new(alloc);
         let mut edges = Vec::with_capacity(alloc, map.count())?;
         for stored in map.channels().together(true) {
-            add_channel(
-                alloc, &mut nodes, &mut cache, &mut edges, known, map, stored,
-            )?;
+            add_channel(alloc, nodes, &mut cache, &mut edges, known, map, stored)?;
         }
-        put_edges(alloc, &mut nodes, &edges)?;
-        let known = known.copy(alloc)?;
-        let parts = Parts {
-            alloc,
-            known,
-            nodes,
-        };
-        Ok(View {
-            parts: Box::new(alloc, parts)?,
-        })
+        put_edges(alloc, nodes, &edges)?;
+        Ok(View { parts })
     }
 }
 
