@@ -29,9 +29,15 @@ use std::marker::Model;
 pub const MAX_CHANNELS: usize = 2_000_000_000;
 
 /// The edges of a map, between numbered nodes. Contracts see the points by number, and the edges into and out of each
-/// node.
+/// node. The parts are in a box, so that a view is moved in one word.
 #[derive(Drop)]
 pub struct View {
+    parts: Box<Parts>,
+}
+
+/// The parts of a view.
+#[derive(Drop)]
+struct Parts {
     alloc: Global,
     known: Known,
     nodes: Nodes,
@@ -44,9 +50,9 @@ impl Model for View {
 
     ghost use Rattle.lgm_graph.specs.inner.Sound.{graph_in, IsSound};
 
-    ghost view = { λ v. graph_in v.known v.nodes };
+    ghost view = { λ v. graph_in v.parts.value.known v.parts.value.nodes };
 
-    ghost invariant = { λ v. IsSound (graph_in v.known v.nodes) };
+    ghost invariant = { λ v. IsSound (graph_in v.parts.value.known v.parts.value.nodes) };
 }
 
 impl View {
@@ -57,14 +63,14 @@ impl View {
         ensures few { result < 2 ^ 32 }
         ensures listed { AreListed self.now }
     {
-        self.nodes.points.len()
+        self.parts.nodes.points.len()
     }
 
     /// The node index of a point, if it has one; each node of a channel in the map has. Allocates nothing.
     pub fn node_number(&self, point: &Point) -> Option<u32>
         ensures { result ≡ position (is_point point.now) self.now.points }
     {
-        let number = self.nodes.points.get_index_of(point)?;
+        let number = self.parts.nodes.points.get_index_of(point)?;
         Some(number as u32)
     }
 
@@ -72,7 +78,7 @@ impl View {
     pub fn point(&self, number: u32) -> Option<&Point>
         ensures { option_copied result ≡ slice_get self.now.points number }
     {
-        self.nodes.points.get_index(number as usize)
+        self.parts.nodes.points.get_index(number as usize)
     }
 
     /// Whether the node with an index takes payments: it has no announcement, or one whose even features are known.
@@ -80,7 +86,7 @@ impl View {
     pub fn takes_payments(&self, number: u32) -> bool
         ensures { result ≡ takes_at self.now number }
     {
-        match self.nodes.nodes.get(number as usize) {
+        match self.parts.nodes.nodes.get(number as usize) {
             Some(node) => node.accepts_payments,
             None => false,
         }
@@ -91,7 +97,7 @@ impl View {
     pub fn edges_into(&self, number: u32) -> &[Edge]
         ensures { result.now ≡ edges_into self.now number }
     {
-        match self.nodes.nodes.get(number as usize) {
+        match self.parts.nodes.nodes.get(number as usize) {
             Some(node) => node.open_into(),
             None => &[],
         }
@@ -101,7 +107,7 @@ impl View {
     pub(crate) fn all_into(&self, number: u32) -> &[Edge]
         ensures { result.now ≡ (node_at self.now number).into }
     {
-        match self.nodes.nodes.get(number as usize) {
+        match self.parts.nodes.nodes.get(number as usize) {
             Some(node) => node.into.as_slice(),
             None => &[],
         }
@@ -111,7 +117,7 @@ impl View {
     pub fn edges_leaving(&self, number: u32) -> &[Edge]
         ensures { result.now ≡ edges_leaving self.now number }
     {
-        match self.nodes.nodes.get(number as usize) {
+        match self.parts.nodes.nodes.get(number as usize) {
             Some(node) => node.out.as_slice(),
             None => &[],
         }
@@ -170,22 +176,26 @@ impl View {
         ensures { IsSound self.now }
     {
         // The first use of a field makes known what holds of every view.
-        let _nodes = &self.nodes;
+        let _nodes = &self.parts.nodes;
     }
 
     /// The seed by which the points are hashed: that of the map of which it was built.
     pub fn seed(&self) -> Seed {
-        *self.nodes.points.hasher()
+        *self.parts.nodes.points.hasher()
     }
 
     /// A copy with the same graph. The only error is out of memory.
     pub fn copy(&self, alloc: Global) -> Result<View, AllocError>
         ensures { IfOk result (λ copy. copy ≡ self.now) }
     {
-        Ok(View {
+        let parts = &*self.parts;
+        let copy = Parts {
             alloc,
-            known: self.known.copy(alloc)?,
-            nodes: self.nodes.copy(alloc)?,
+            known: parts.known.copy(alloc)?,
+            nodes: parts.nodes.copy(alloc)?,
+        };
+        Ok(View {
+            parts: Box::new(alloc, copy)?,
         })
     }
 
@@ -206,7 +216,8 @@ impl View {
         ensures map_stays { OnErr result (map.new ≡ map.old) }
         ensures stays { OnErr result (self.new ≡ self.old) }
     {
-        apply::apply(self.alloc, &self.known, &mut self.nodes, map, op)?;
+        let parts = &mut *self.parts;
+        apply::apply(parts.alloc, &parts.known, &mut parts.nodes, map, op)?;
         Ok(())
     }
 }

@@ -20,9 +20,16 @@ use std::marker::Model;
 /// The public channels, their updates and nodes, as announced, and the banned nodes. Contracts see the rows.
 ///
 /// A call on one item takes time logarithmic in the size of the map; a close takes also a pass over the ids of the
-/// channels of its two nodes, and a ban takes what a close does for each channel of its four nodes.
+/// channels of its two nodes, and a ban takes what a close does for each channel of its four nodes. The parts are in a box, so
+/// that a map is moved in one word.
 #[derive(Drop)]
 pub struct Map {
+    parts: Box<Parts>,
+}
+
+/// The parts of a map.
+#[derive(Drop)]
+struct Parts {
     alloc: Global,
     /// Channels with their updates.
     channels: ChannelTable,
@@ -42,19 +49,19 @@ impl Model for Map {
     ghost use Rattle.lgm_store.specs.inner.ChannelEntries.{channel_entries, update_entries};
     ghost use Rattle.lgm_store.specs.inner.Sound.{IsKept};
 
-    ghost view = { λ m. record {
-      channels = values_of (channel_entries m.channels);
-      updates = values_of (update_entries m.channels);
-      nodes = values_of m.nodes;
-      banned = m.banned;
+    ghost view = { λ m. let parts = m.parts.value in record {
+      channels = values_of (channel_entries parts.channels);
+      updates = values_of (update_entries parts.channels);
+      nodes = values_of parts.nodes;
+      banned = parts.banned;
     } };
 
-    ghost invariant = { λ m. IsKept (channel_entries m.channels) (update_entries m.channels) m.nodes
-        m.ends m.banned };
+    ghost invariant = { λ m. let parts = m.parts.value in
+        IsKept (channel_entries parts.channels) (update_entries parts.channels) parts.nodes parts.ends parts.banned };
 }
 
 impl Map {
-    /// An empty map. Allocates nothing yet.
+    /// An empty map. Allocates nothing but the box of its parts.
     ///
     /// If points come from strangers, use [`Map::with_seed`].
     pub fn new(alloc: Global) -> Result<Map, AllocError>
@@ -63,21 +70,24 @@ impl Map {
         Map::with_seed(alloc, Seed::new([0; 16]))
     }
 
-    /// An empty map, which hashes points by this seed. Allocates nothing yet.
+    /// An empty map, which hashes points by this seed. Allocates nothing but the box of its parts.
     pub fn with_seed(alloc: Global, seed: Seed) -> Result<Map, AllocError>
         ensures { IfOk result (λ map. map ≡ empty) }
     {
-        Ok(Map {
+        let parts = Parts {
             alloc,
             channels: ChannelTable::new(alloc),
             nodes: NodeTable::new(alloc),
             ends: ChannelsByNode::new(alloc, seed)?,
             banned: Banned::new(alloc),
+        };
+        Ok(Map {
+            parts: Box::new(alloc, parts)?,
         })
     }
 
     /// The seed by which the map hashes points.
     pub fn seed(&self) -> Seed {
-        self.ends.seed()
+        self.parts.ends.seed()
     }
 }

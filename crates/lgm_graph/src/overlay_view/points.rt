@@ -21,7 +21,7 @@ use std::marker::Model;
 #[derive(Drop)]
 pub(crate) struct Points<'a> {
     view: &'a View,
-    added: IndexSet<Point, Seed>,
+    added: Box<IndexSet<Point, Seed>>,
 }
 
 impl<'a> Model for Points<'a> {
@@ -32,10 +32,10 @@ impl<'a> Model for Points<'a> {
 
     ghost Value = { List APoint };
 
-    ghost view = { λ p. p.view.now.points ++ p.added.keys };
+    ghost view = { λ p. p.view.now.points ++ p.added.value.keys };
 
-    ghost invariant = { λ p. (length (p.view.now.points ++ p.added.keys) < 2 ^ 32)
-        × IsDistinct is_point (p.view.now.points ++ p.added.keys) };
+    ghost invariant = { λ p. (length (p.view.now.points ++ p.added.value.keys) < 2 ^ 32)
+        × IsDistinct is_point (p.view.now.points ++ p.added.value.keys) };
 }
 
 impl<'a> Points<'a> {
@@ -51,7 +51,7 @@ impl<'a> Points<'a> {
     {
         // The contract of `nodes` says that points are distinct.
         view.nodes();
-        let added = IndexSet::with_hasher(alloc, view.seed());
+        let added = Box::new(alloc, IndexSet::with_hasher(alloc, view.seed()))?;
         let mut points = Points { view, added };
         for edge in extra {
             points.add(edge.from)?;

@@ -13,7 +13,7 @@ ghost use Rattle.lgm_graph.specs.inner.Sound.{ShowsIn};
 ghost use Rattle.lgm_graph.specs.inner.Walk.{AreEdgesOf, HasNumbered, KeepsNumbers, edges_of_channel};
 
 use super::number_cache::NumberCache;
-use super::{MAX_CHANNELS, View};
+use super::{MAX_CHANNELS, Parts, View};
 use crate::edge::{Edge, edge_on};
 use crate::known::Known;
 use crate::nodes::{Nodes, takes_payments};
@@ -30,21 +30,20 @@ impl View {
         ensures few { IfOk result (λ view. length view.points ≤ 2 * length map.now.channels) }
     {
         map.rows_are_lawful();
-        let mut nodes = Nodes::new(alloc, map.seed());
+        let parts = Parts {
+            alloc,
+            known: known.copy(alloc)?,
+            nodes: Nodes::new(alloc, map.seed()),
+        };
+        let mut parts = Box::new(alloc, parts)?;
+        let nodes = &mut parts.nodes;
         let mut cache = NumberCache::new(alloc);
         let mut edges = Vec::with_capacity(alloc, map.count())?;
         for stored in map.channels().together(true) {
-            add_channel(
-                alloc, &mut nodes, &mut cache, &mut edges, known, map, stored,
-            )?;
+            add_channel(alloc, nodes, &mut cache, &mut edges, known, map, stored)?;
         }
-        put_edges(alloc, &mut nodes, &edges)?;
-        let known = known.copy(alloc)?;
-        Ok(View {
-            alloc,
-            known,
-            nodes,
-        })
+        put_edges(alloc, nodes, &edges)?;
+        Ok(View { parts })
     }
 }
 

@@ -11,7 +11,7 @@ ghost use Rattle.lgm_store.specs.History.{with_ban};
 ghost use Rattle.lgm_store.specs.Reading.{ids_at};
 ghost use Rattle.lgm_store.specs.inner.Decided.{node_verdict};
 
-use super::Map;
+use super::{Map, Parts};
 use crate::banned::Banned;
 use crate::channel_info::ChannelInfo;
 use crate::channels_by_node::ChannelsByNode;
@@ -66,16 +66,17 @@ impl Map {
         row.get().bytes_encode_row();
         let stored = ChannelInfo::new(row.share()?);
         let (scid, first, second) = (stored.scid(), *stored.node(false), *stored.node(true));
-        if self.banned.contains_either(&first, &second) {
+        let parts = &mut *self.parts;
+        if parts.banned.contains_either(&first, &second) {
             return Ok(false);
         }
-        if !self.channels.insert(stored)? {
+        if !parts.channels.insert(stored)? {
             return Ok(false);
         }
-        match self.ends.add(first, second, scid) {
+        match parts.ends.add(first, second, scid) {
             Ok(()) => Ok(true),
             Err(refused) => {
-                self.channels.discard(&scid);
+                parts.channels.discard(&scid);
                 Err(refused)
             }
         }
@@ -85,7 +86,7 @@ impl Map {
         ensures { self.new ≡ with_update self.old row }
     {
         row.get().bytes_encode_row();
-        self.channels.put_update(row);
+        self.parts.channels.put_update(row);
     }
 
     pub(crate) fn put_node(&mut self, row: Shared<StoredNode>) -> Result<(), AllocError>
@@ -96,7 +97,7 @@ impl Map {
             return Ok(());
         }
         row.get().bytes_encode_row();
-        self.nodes.put(row)?;
+        self.parts.nodes.put(row)?;
         Ok(())
     }
 
@@ -114,7 +115,7 @@ impl Map {
             return Ok(false);
         }
         row.get().bytes_encode_row();
-        if !self.nodes.put_newer(row)? {
+        if !self.parts.nodes.put_newer(row)? {
             return Ok(false);
         }
         Ok(true)
@@ -123,13 +124,14 @@ impl Map {
     pub(crate) fn close(&mut self, scid: Scid)
         ensures { self.new ≡ without_channel self.old scid }
     {
-        let Some(stored) = self.channels.remove(&scid) else {
+        let parts = &mut *self.parts;
+        let Some(stored) = parts.channels.remove(&scid) else {
             return;
         };
         let (first, second) = (*stored.node(false), *stored.node(true));
-        self.ends.remove(&first, &second, scid);
-        drop_unless_ended(&mut self.nodes, &self.ends, &first);
-        drop_unless_ended(&mut self.nodes, &self.ends, &second);
+        parts.ends.remove(&first, &second, scid);
+        drop_unless_ended(&mut parts.nodes, &parts.ends, &first);
+        drop_unless_ended(&mut parts.nodes, &parts.ends, &second);
     }
 }
 
@@ -152,12 +154,16 @@ impl Map {
     pub fn copy(&self, alloc: Global) -> Result<Map, AllocError>
         ensures { IfOk result (λ copy. copy ≡ self.now) }
     {
-        Ok(Map {
+        let parts = &*self.parts;
+        let copy = Parts {
             alloc,
-            channels: self.channels.copy(alloc)?,
-            nodes: self.nodes.copy(alloc)?,
-            ends: self.ends.copy()?,
-            banned: self.banned.copy()?,
+            channels: parts.channels.copy(alloc)?,
+            nodes: parts.nodes.copy(alloc)?,
+            ends: parts.ends.copy()?,
+            banned: parts.banned.copy()?,
+        };
+        Ok(Map {
+            parts: Box::new(alloc, copy)?,
         })
     }
 }
@@ -185,13 +191,14 @@ impl Map {
         ensures err { OnErr result (self.new ≡ self.old) }
     {
         let scids = self.ids_of(ban)?;
-        self.banned.ban(ban)?;
+        let parts = &mut *self.parts;
+        parts.banned.ban(ban)?;
         // By the invariant no channel of a map has a banned node, so the set is empty while such channels are removed.
-        let banned = mem::replace(&mut self.banned, Banned::new(self.alloc));
+        let banned = mem::replace(&mut parts.banned, Banned::new(parts.alloc));
         for scid in &scids {
             self.close(*scid);
         }
-        self.banned = banned;
+        self.parts.banned = banned;
         Ok(())
     }
 
@@ -201,11 +208,12 @@ impl Map {
             ≡ ((ids_at self.now.channels ban.now.held1 ++ ids_at self.now.channels ban.now.held2)
             ++ ids_at self.now.channels ban.now.new1) ++ ids_at self.now.channels ban.now.new2) }
     {
-        let mut scids = Vec::new(self.alloc);
-        self.ends.gather(&ban.held1, &mut scids)?;
-        self.ends.gather(&ban.held2, &mut scids)?;
-        self.ends.gather(&ban.new1, &mut scids)?;
-        self.ends.gather(&ban.new2, &mut scids)?;
+        let parts = &*self.parts;
+        let mut scids = Vec::new(parts.alloc);
+        parts.ends.gather(&ban.held1, &mut scids)?;
+        parts.ends.gather(&ban.held2, &mut scids)?;
+        parts.ends.gather(&ban.new1, &mut scids)?;
+        parts.ends.gather(&ban.new2, &mut scids)?;
         Ok(scids)
     }
 }

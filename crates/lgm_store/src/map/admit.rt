@@ -114,7 +114,7 @@ impl Map {
         ensures { result
             ≡ channel_verdict self.now.banned (channel_of self.now.channels scid) first.now second.now }
     {
-        if self.banned.contains_either(first, second) {
+        if self.parts.banned.contains_either(first, second) {
             return Err(Refusal::Banned);
         }
         match self.channel_info(scid) {

@@ -97,7 +97,7 @@ impl Map {
         ensures refused { OnErr result (self.new ≡ self.old) }
     {
         row.get().bytes_encode_row();
-        match self.channels.offer_update(&row, signer, hint) {
+        match self.parts.channels.offer_update(&row, signer, hint) {
             Ok(()) => Ok(Op::Update(row)),
             Err(refusal) => Err(refusal),
         }

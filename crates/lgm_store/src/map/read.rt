@@ -25,14 +25,14 @@ impl Map {
     pub fn rows_are_lawful(&self)
         ensures { IsLawful self.now }
     {
-        let _ = &self.alloc;
+        let _ = &self.parts.alloc;
     }
 
     /// The bytes of each row of every map encode it. A call does nothing: its contract is the law.
     pub fn bytes_encode_rows(&self)
         ensures { AreSpelled self.now }
     {
-        let _ = &self.alloc;
+        let _ = &self.parts.alloc;
     }
 
     /// A channel with its updates, if it is in the map.
@@ -44,7 +44,7 @@ impl Map {
         ensures stored { option_copied result
             ≡ option_map (stored_at self.now) (channel_of self.now.channels scid) }
     {
-        self.channels.get(&scid)
+        self.parts.channels.get(&scid)
     }
 
     /// Reads the rows of the first [`ROWS_TOGETHER`] of these channels, and of their nodes, so that the processor's cache has
@@ -53,8 +53,9 @@ impl Map {
     /// A caller that reads many channels calls this for some of them before it reads the first: reads that don't depend
     /// on each other wait for the memory at the same time.
     pub fn prefetch_rows(&self, scids: &[Scid]) {
-        let node_keys = self.channels.prefetch_rows(scids);
-        self.nodes.prefetch_rows(node_keys.as_slice());
+        let parts = &*self.parts;
+        let node_keys = parts.channels.prefetch_rows(scids);
+        parts.nodes.prefetch_rows(node_keys.as_slice());
     }
 
     /// The row of a channel, if it is in the map.
@@ -84,7 +85,7 @@ impl Map {
     pub fn stored_node(&self, node: &Point) -> Option<&StoredNode>
         ensures { option_copied result ≡ node_of self.now.nodes node.now }
     {
-        let row = self.nodes.get(node)?;
+        let row = self.parts.nodes.get(node)?;
         Some(row.get())
     }
 
@@ -92,7 +93,7 @@ impl Map {
     pub fn ends_channel(&self, node: &Point) -> bool
         ensures { result ≡ ends_channel self.now.channels node.now }
     {
-        self.ends.contains(node)
+        self.parts.ends.contains(node)
     }
 
     /// The ids of a node's channels, ascending. Only these are visited. The only error is out of memory.
@@ -100,7 +101,7 @@ impl Map {
         ensures { IfOk result (λ ids. ids ≡ ids_at self.now.channels node.now) }
     {
         let mut ids = Vec::new(alloc);
-        self.ends.gather(node, &mut ids)?;
+        self.parts.ends.gather(node, &mut ids)?;
         Ok(Scids::from_vec(ids))
     }
 
@@ -108,7 +109,7 @@ impl Map {
     pub fn banned(&self, node: &Point) -> bool
         ensures { result ≡ is_banned self.now.banned node.now }
     {
-        self.banned.contains(node)
+        self.parts.banned.contains(node)
     }
 
     /// The number of channels.
@@ -116,14 +117,17 @@ impl Map {
         ensures value { result ≡ length self.now.channels }
         ensures ascend { IsAscending self.now }
     {
-        self.channels.len()
+        self.parts.channels.len()
     }
 
     /// The channel with the least id above the given one, or with the least of all if none is given.
     pub fn next_channel(&self, after: Option<Scid>) -> Option<ChannelRow<'_>>
         ensures { result ≡ next_channel_of self.now.channels after }
     {
-        let mut channels = self.channels.range(start_after(after), Bound::Unbounded);
+        let mut channels = self
+            .parts
+            .channels
+            .range(start_after(after), Bound::Unbounded);
         let stored = channels.next()?;
         Some(stored.row())
     }
@@ -134,6 +138,7 @@ impl Map {
         ensures { result ≡ next_node_of self.now.nodes (option_copied after.entry) }
     {
         let mut nodes = self
+            .parts
             .nodes
             .range(start_after(after.copied()), Bound::Unbounded);
         let stored = nodes.next()?;
@@ -144,21 +149,23 @@ impl Map {
     pub fn next_banned(&self, after: Option<Point>) -> Option<Point>
         ensures { result ≡ next_point_of self.now.banned after }
     {
-        self.banned.first_from(start_after(after))
+        self.parts.banned.first_from(start_after(after))
     }
 
     /// All channels with their updates, by ascending id.
     pub fn channels(&self) -> Channels<'_>
         ensures { result ≡ map (stored_at self.now) self.now.channels }
     {
-        self.channels.range(Bound::Unbounded, Bound::Unbounded)
+        self.parts
+            .channels
+            .range(Bound::Unbounded, Bound::Unbounded)
     }
 
     /// All node announcements, by ascending node id.
     pub fn nodes(&self) -> Nodes<'_>
         ensures { result ≡ self.now.nodes }
     {
-        self.nodes.range(Bound::Unbounded, Bound::Unbounded)
+        self.parts.nodes.range(Bound::Unbounded, Bound::Unbounded)
     }
 
     /// The channels funded in the blocks from `from` up to but excluding `to`, with their updates, by ascending id.
@@ -172,7 +179,7 @@ impl Map {
         } else {
             Bound::Excluded(start)
         };
-        let channels = self.channels.range(Bound::Included(start), end);
+        let channels = self.parts.channels.range(Bound::Included(start), end);
         ChannelsBetween::new(channels, from, to)
     }
 

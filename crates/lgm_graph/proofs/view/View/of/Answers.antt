@@ -1,7 +1,7 @@
 use Rattle.std.proofs.Common.{[], ◌∙◌, arith, length, length-append, ap, sym, subst}
 use Rattle.lgm_graph.specs.Edges.{carrying, takes_payments}
 use Rattle.lgm_graph.specs.Graph.{IsGraphOf}
-use Rattle.lgm_graph.specs.inner.Sound.{graph_in}
+use Rattle.lgm_graph.specs.inner.Sound.{graph_in, IsSound}
 use Rattle.lgm_graph.specs.inner.Walk.{AreEdgesOf, HasWalked}
 use Rattle.lgm_graph.proofs.PushedEdgeLaws.{nodes_long}
 use Rattle.lgm_graph.proofs.Walked.{walked_own, walked_more, walked_all}
@@ -29,6 +29,7 @@ put_edges-requires-clause-long c =
 
 pub invariant_of-result : goal.invariant_of-result
 invariant_of-result c =
+    let copied = ap (λ parts. parts.known) (c.deref_mut.ensures.value ∙ c.in_ok-parts.ensures.ok) ∙ c.in_ok-copy.ensures in
     let walked = c.loop-stored.invariant in
     let all = ap length walked.parts ∙ length-append walked.done walked.rest in
     let points = c.in_ok-put_edges.ensures.points in
@@ -38,16 +39,17 @@ invariant_of-result c =
     c.loop-stored.nodes)) c.in-None.ensures.steps.0 c.loop-stored.invariant) c.in_ok-put_edges.ensures.points
     (λ accepts bare edges are. c.in_ok-put_edges.ensures.shows accepts bare edges
     (subst (AreEdgesOf edges c.loop-stored.nodes.points.keys) (sym c.deref.ensures.value) are)) in
-    record {
+    subst (λ known. IsSound (graph_in known c.put_edges.new.nodes)) (sym copied) (record {
       few = omega (arith, c.requires, walked.few, all, ap length points);
       accepts = takes_payments c.args.known.now c.args.map.now.nodes;
       edges = carrying c.args.map.now;
       shows = beside.shows;
-    }
+    })
 
 pub returns-clause-beside : goal.returns-clause-beside
 returns-clause-beside c =
-    subst (λ k. IsGraphOf c.args.map.now (graph_in k c.put_edges.new.nodes)) (sym c.in_ok-known.ensures)
+    let copied = ap (λ parts. parts.known) (c.deref_mut.ensures.value ∙ c.in_ok-parts.ensures.ok) ∙ c.in_ok-copy.ensures in
+    subst (λ known. IsGraphOf c.args.map.now (graph_in known c.put_edges.new.nodes)) (sym copied)
     (walked_all c.args.known.now c.args.map.now c.loop-stored.edges.items c.loop-stored.nodes c.put_edges.new.nodes c.rows_are_lawful.ensures.ascend
     (subst (λ left. HasWalked c.args.map.now left c.loop-stored.edges.items (graph_in c.args.known.now
     c.loop-stored.nodes)) c.in-None.ensures.steps.0 c.loop-stored.invariant) c.in_ok-put_edges.ensures.points

@@ -20,23 +20,27 @@ use Rattle.lgm_store.proofs.ChannelMapLaws.{lookup-channels, insert-channels, in
 use Rattle.lgm_store.proofs.Soundness.{IsSound-stored, IsSound-listed, lacks}
 use Rattle.lgm_store.proofs.Changes.{is_stored, with_channel-new, with_channel-stored, with_channel-banned, banned-by}
 use Rattle.lgm_store.proofs.SpelledRowLaws.{AllSpelled-channel}
+use Rattle.lgm_store.proofs.map.Opened.{opened}
 use Rattle.lgm_store.proofs.map.Map.add_channel.Goals as goal
-use Rattle.lgm_store.proofs.map.Map.add_channel.Goals.{Joined-stored-2, Then-not-branch}
+use Rattle.lgm_store.proofs.map.Map.add_channel.Goals.{Joined-add, Joined-stored-2, After-self-then-not-branch-1, in-Ok, in-Err}
 
 -- ---- it isn't added
 
 -- one of its nodes is banned
 is_banned : (c : Joined-stored-2) → ends_banned c.args.self.now.banned c.args.row.now ≡ true
 is_banned c =
+    let parts = opened c.deref_mut-parts.ensures.value c.self.invariant c.self.view_is in
     let stored = c.new-stored.ensures ∙ ap alone c.in_ok-share.ensures in
     let banned =
-    banned-by c.self.inside.banned c.args.row.now c.node.result.now c.node-2.result.now c.contains_either.result
+    banned-by c.deref_mut-parts.result.now.banned c.args.row.now c.node.result.now c.node-2.result.now c.contains_either.result
     c.contains_either.ensures (c.node.ensures ∙ ap (λ h. h.channel.message.node_id_1) stored)
     (c.node-2.ensures ∙ ap (λ h. h.channel.message.node_id_2) stored) in
-    ap (λ rows. ends_banned rows.banned c.args.row.now) (sym c.self.view_is) ∙ sym banned ∙ c.if-contains_either.true
+    ap (λ rows. ends_banned rows.banned c.args.row.now) (sym parts.seen) ∙ sym banned ∙ c.if-contains_either.true
 
 pub returns-then-contains_either-clause-ok : goal.returns-then-contains_either-clause-ok
-returns-then-contains_either-clause-ok c = with_channel-banned c.args.self.now c.args.row.now (is_banned c)
+returns-then-contains_either-clause-ok c =
+    let parts = opened c.deref_mut-parts.ensures.value c.self.invariant c.self.view_is in
+    parts.seen ∙ with_channel-banned c.args.self.now c.args.row.now (is_banned c)
 
 pub returns-then-contains_either-clause-refused : goal.returns-then-contains_either-clause-refused
 returns-then-contains_either-clause-refused c = λ _.
@@ -44,24 +48,26 @@ returns-then-contains_either-clause-refused c = λ _.
     (ends_banned c.args.self.now.banned c.args.row.now) (is_banned c)
 
 -- it is in the map
-is_known : (c : Then-not-branch) → is_some (channel_of c.args.self.now.channels c.args.row.now.message.short_channel_id) ≡ true
+is_known : (c : After-self-then-not-branch-1) → is_some (channel_of c.args.self.now.channels c.args.row.now.message.short_channel_id) ≡ true
 is_known c =
+    let parts = opened c.deref_mut-parts.ensures.value c.self.invariant c.self.view_is in
     let stored = c.new-stored.ensures ∙ ap alone c.in_ok-share.ensures in
     let present : c.in_ok-insert.field-0 ≡ false = c.if-not-branch.true in
     let found = c.in_ok-insert.ensures.present (ap (λ (b : Bool). Ok b) present) in
-    let here : is_some (lookup (is_at (nat_cmp c.args.row.now.message.short_channel_id)) c.self.inside.channels) ≡ true =
+    let here : is_some (lookup (is_at (nat_cmp c.args.row.now.message.short_channel_id)) c.deref_mut-parts.result.now.channels) ≡ true =
     rw stored at found in
-    sym (is_stored c.self.inside.channels c.args.self.now.channels c.args.row.now.message.short_channel_id
-    c.self.invariant.rows.channels_keyed (ap (λ rows. rows.channels) c.self.view_is)) ∙ here
+    sym (is_stored c.deref_mut-parts.result.now.channels c.args.self.now.channels c.args.row.now.message.short_channel_id
+    parts.kept.rows.channels_keyed (ap (λ rows. rows.channels) parts.seen)) ∙ here
 
 pub returns-then-not-branch-clause-refused : goal.returns-then-not-branch-clause-refused
 returns-then-not-branch-clause-refused c = λ _. rw (is_known c) refl
 
 pub returns-then-not-branch-clause-ok : goal.returns-then-not-branch-clause-ok
 returns-then-not-branch-clause-ok c =
+    let parts = opened c.deref_mut-parts.ensures.value c.self.invariant c.self.view_is in
     let present : c.in_ok-insert.field-0 ≡ false = c.if-not-branch.true in
-    let same : c.insert.new.self ≡ c.self.inside.channels = c.in_ok-insert.ensures.same (λ is. absurd cc) in
-    rw same (c.self.view_is ∙ with_channel-stored c.args.self.now c.args.row.now (is_known c))
+    let same : c.insert.new.self ≡ c.deref_mut-parts.result.now.channels = c.in_ok-insert.ensures.same (λ is. absurd cc) in
+    rw same (parts.seen ∙ with_channel-stored c.args.self.now c.args.row.now (is_known c))
 
 -- ---- it is new
 
@@ -94,39 +100,36 @@ same_updates : (entries new : List (ℕ × ChannelInfo)) (id : ℕ) (row : Chann
 same_updates entries new id row its =
     ap (λ es. values_of (update_entries es)) its.is ∙ ap values_of (insert-updates id row entries its.none)
 
-pub invariant_of-self-in-Ok : goal.invariant_of-self-in-Ok
-invariant_of-self-in-Ok c =
-    let entries = c.self.inside.channels in
-    let new = c.insert.new.self in
-    let id = c.scid-scid.result in
-    let row = c.args.row.now in
+-- the row and its slot
+own : (c : Joined-add) → IsAdded c.deref_mut-parts.result.now.channels c.insert.new.self c.scid-scid.result c.args.row.now
+own c =
     let stored = c.new-stored.ensures ∙ ap alone c.in_ok-share.ensures in
-    let first = c.node.ensures ∙ ap (λ h. h.channel.message.node_id_1) stored in
-    let second = c.node-2.ensures ∙ ap (λ h. h.channel.message.node_id_2) stored in
     let is_new = ap (λ (b : Bool). Ok b) c.if-not-branch.false in
-    let its =
-    added entries new id row c.new-stored.result stored c.scid-scid.ensures (c.in_ok-insert.ensures.new is_new)
-    (c.in_ok-insert.ensures.added is_new) in
-    let put_is =
-    placed entries new id row its c.self.invariant.rows.channels_keyed c.self.invariant.rows.channels_ascend in
-    record {
-      rows =
-          IsSound-stored entries new c.self.inside.nodes c.self.inside.ends c.add.new.self id row
-          c.node.result.now c.node-2.result.now its.own first second its.is its.none
-          (c.in_ok-insert.ensures.ascend is_new) c.in-Ok.ensures.ok c.self.invariant.rows;
-      spelled =
-          AllSpelled-channel (values_of (channel_entries entries)) (values_of (channel_entries new))
-          (values_of (update_entries entries)) (values_of (update_entries new))
-          (values_of c.self.inside.nodes) row
-          (subst (λ (row : ChannelRow). Wire (wired.Announce row.message) row.raw) c.get.ensures c.bytes_encode_row.ensures) put_is
-          (same_updates entries new id row its) c.self.invariant.spelled;
-      banned_ascend = c.self.invariant.banned_ascend;
-      allowed =
-          rw (put_is) (All-put (λ row. ends_banned c.self.inside.banned row ≡ false) by_id
-          (values_of (channel_entries entries)) row
-          (sym (banned-by c.self.inside.banned row c.node.result.now c.node-2.result.now c.contains_either.result
-          c.contains_either.ensures first second) ∙ c.if-contains_either.false) c.self.invariant.allowed);
-    }
+    added c.deref_mut-parts.result.now.channels c.insert.new.self c.scid-scid.result c.args.row.now c.new-stored.result stored
+    c.scid-scid.ensures (c.in_ok-insert.ensures.new is_new) (c.in_ok-insert.ensures.added is_new)
+
+-- its nodes
+first : (c : Joined-add) → c.node.result.now ≡ c.args.row.now.message.node_id_1
+first c = c.node.ensures ∙ ap (λ h. h.channel.message.node_id_1) (c.new-stored.ensures ∙ ap alone c.in_ok-share.ensures)
+
+second : (c : Joined-add) → c.node-2.result.now ≡ c.args.row.now.message.node_id_2
+second c = c.node-2.ensures ∙ ap (λ h. h.channel.message.node_id_2) (c.new-stored.ensures ∙ ap alone c.in_ok-share.ensures)
+
+-- none of them is banned
+allowed : (c : Joined-add) → ends_banned c.deref_mut-parts.result.now.banned c.args.row.now ≡ false
+allowed c =
+    sym (banned-by c.deref_mut-parts.result.now.banned c.args.row.now c.node.result.now c.node-2.result.now
+    c.contains_either.result c.contains_either.ensures (first c) (second c)) ∙ c.if-contains_either.false
+
+-- the channel wasn't there
+absent : (c : Joined-add) → is_some (channel_of c.args.self.now.channels c.args.row.now.message.short_channel_id) ≡ false
+absent c =
+    let parts = opened c.deref_mut-parts.ensures.value c.self.invariant c.self.view_is in
+    let entries = c.deref_mut-parts.result.now.channels in
+    let id = c.args.row.now.message.short_channel_id in
+    let none : is_some (lookup (is_at (nat_cmp id)) entries) ≡ false =
+    ap is_some (ap (λ (k : ℕ). lookup (is_at (nat_cmp k)) entries) (sym (own c).own) ∙ (own c).none) in
+    sym (is_stored entries c.args.self.now.channels id parts.kept.rows.channels_keyed (ap (λ rows. rows.channels) parts.seen)) ∙ none
 
 -- the channels as they were
 restored : (entries new left : List (ℕ × ChannelInfo)) (id : ℕ) (row : ChannelRow) → IsAdded entries new id row
@@ -134,78 +137,82 @@ restored : (entries new left : List (ℕ × ChannelInfo)) (id : ℕ) (row : Chan
 restored entries new left id row its left_is =
     left_is ∙ ap (remove_entry (is_at (nat_cmp id))) its.is ∙ remove-inserted id (alone row) entries its.none
 
-pub invariant_of-self-in-Err : goal.invariant_of-self-in-Err
-invariant_of-self-in-Err c =
-    let entries = c.self.inside.channels in
-    let id = c.scid-scid.result in
-    let stored = c.new-stored.ensures ∙ ap alone c.in_ok-share.ensures in
-    let is_new = ap (λ (b : Bool). Ok b) c.if-not-branch.false in
-    let its =
-    added entries c.insert.new.self id c.args.row.now c.new-stored.result stored c.scid-scid.ensures
-    (c.in_ok-insert.ensures.new is_new) (c.in_ok-insert.ensures.added is_new) in
-    let left = restored entries c.insert.new.self c.discard.new.self id c.args.row.now its c.discard.ensures.left in
-    let none_stored =
-    lookup-channels (is_at (nat_cmp id)) entries ∙ ap (option_map (λ stored. stored.channel)) its.none in
-    rw left (record {
-      rows =
-          IsSound-listed (channel_entries entries) (update_entries entries) c.self.inside.nodes
-          c.self.inside.ends c.add.new.self
-          (c.in-Err.ensures.err _ c.self.invariant.rows.listed (lacks id (channel_entries entries)
-          c.self.invariant.rows.channels_keyed none_stored)) c.self.invariant.rows;
-      spelled = c.self.invariant.spelled;
-      banned_ascend = c.self.invariant.banned_ascend;
-      allowed = c.self.invariant.allowed;
-    })
-
-pub returns-in-Ok-clause-ok : goal.returns-in-Ok-clause-ok
-returns-in-Ok-clause-ok c =
-    let entries = c.self.inside.channels in
+pub invariant_of-self-2 : goal.invariant_of-self-2
+invariant_of-self-2 c =
+    let parts = opened c.deref_mut-parts.ensures.value c.self.invariant c.self.view_is in
+    let now = c.deref_mut-parts.result.now in
+    let entries = now.channels in
     let new = c.insert.new.self in
     let id = c.scid-scid.result in
     let row = c.args.row.now in
-    let stored = c.new-stored.ensures ∙ ap alone c.in_ok-share.ensures in
+    let its = own c in
     let is_new = ap (λ (b : Bool). Ok b) c.if-not-branch.false in
-    let its =
-    added entries new id row c.new-stored.result stored c.scid-scid.ensures (c.in_ok-insert.ensures.new is_new)
-    (c.in_ok-insert.ensures.added is_new) in
     let put_is =
-    placed entries new id row its c.self.invariant.rows.channels_keyed c.self.invariant.rows.channels_ascend in
-    let same = same_updates entries new id row its in
-    let absent : is_some (lookup (is_at (nat_cmp row.message.short_channel_id)) entries) ≡ false =
-    ap is_some (ap (λ (k : ℕ). lookup (is_at (nat_cmp k)) entries) (sym its.own) ∙ its.none) in
-    let fresh =
-    sym (is_stored entries c.args.self.now.channels row.message.short_channel_id
-    c.self.invariant.rows.channels_keyed (ap (λ rows. rows.channels) c.self.view_is)) ∙ absent in
-    let allowed =
-    ap (λ rows. ends_banned rows.banned row) (sym c.self.view_is)
-    ∙ sym (banned-by c.self.inside.banned row c.node.result.now c.node-2.result.now c.contains_either.result
-    c.contains_either.ensures (c.node.ensures ∙ ap (λ h. h.channel.message.node_id_1) stored)
-    (c.node-2.ensures ∙ ap (λ h. h.channel.message.node_id_2) stored)) ∙ c.if-contains_either.false in
-    with_channel-new c.args.self.now _ row fresh allowed
-    (put_is ∙ ap (λ rows. put by_id rows.channels row) c.self.view_is)
-    (same ∙ ap (λ rows. rows.updates) c.self.view_is) (ap (λ rows. rows.nodes) c.self.view_is)
-    (ap (λ rows. rows.banned) c.self.view_is)
+    placed entries new id row its parts.kept.rows.channels_keyed parts.kept.rows.channels_ascend in
+    elim c.match-add.branch [
+      | in-Ok w ↦ rw w.self-inside-is (record {
+        rows =
+            IsSound-stored entries new now.nodes now.ends c.add.new.self id row
+            c.node.result.now c.node-2.result.now its.own (first c) (second c) its.is its.none
+            (c.in_ok-insert.ensures.ascend is_new) w.in-Ok.ensures.ok parts.kept.rows;
+        spelled =
+            AllSpelled-channel (values_of (channel_entries entries)) (values_of (channel_entries new))
+            (values_of (update_entries entries)) (values_of (update_entries new)) (values_of now.nodes) row
+            (subst (λ (row : ChannelRow). Wire (wired.Announce row.message) row.raw) c.get.ensures c.bytes_encode_row.ensures) put_is
+            (same_updates entries new id row its) parts.kept.spelled;
+        banned_ascend = parts.kept.banned_ascend;
+        allowed =
+            rw (put_is) (All-put (λ row. ends_banned now.banned row ≡ false) by_id
+            (values_of (channel_entries entries)) row (allowed c) parts.kept.allowed);
+      })
+      | in-Err w ↦
+          let left = restored entries new w.discard.new.self id row its w.discard.ensures.left in
+          let none_stored =
+          lookup-channels (is_at (nat_cmp id)) entries ∙ ap (option_map (λ stored. stored.channel)) its.none in
+          rw (w.self-inside-is, left) (record {
+            rows =
+                IsSound-listed (channel_entries entries) (update_entries entries) now.nodes now.ends c.add.new.self
+                (w.in-Err.ensures.err _ parts.kept.rows.listed (lacks id (channel_entries entries)
+                parts.kept.rows.channels_keyed none_stored)) parts.kept.rows;
+            spelled = parts.kept.spelled;
+            banned_ascend = parts.kept.banned_ascend;
+            allowed = parts.kept.allowed;
+          })
+    ]
 
-pub returns-in-Ok-clause-new : goal.returns-in-Ok-clause-new
-returns-in-Ok-clause-new c = λ _.
-    let entries = c.self.inside.channels in
+pub returns-clause-ok : goal.returns-clause-ok
+returns-clause-ok c =
+    let parts = opened c.deref_mut-parts.ensures.value c.self.invariant c.self.view_is in
+    let entries = c.deref_mut-parts.result.now.channels in
     let row = c.args.row.now in
-    let stored = c.new-stored.ensures ∙ ap alone c.in_ok-share.ensures in
-    let is_new = ap (λ (b : Bool). Ok b) c.if-not-branch.false in
-    let its =
-    added entries c.insert.new.self c.scid-scid.result row c.new-stored.result stored c.scid-scid.ensures
-    (c.in_ok-insert.ensures.new is_new) (c.in_ok-insert.ensures.added is_new) in
-    let absent : is_some (lookup (is_at (nat_cmp row.message.short_channel_id)) entries) ≡ false =
-    ap is_some (ap (λ (k : ℕ). lookup (is_at (nat_cmp k)) entries) (sym its.own) ∙ its.none) in
-    sym (is_stored entries c.args.self.now.channels row.message.short_channel_id
-    c.self.invariant.rows.channels_keyed (ap (λ rows. rows.channels) c.self.view_is)) ∙ absent
+    elim c.match-add.branch [
+      | in-Ok w ↦
+          let put_is =
+          placed entries c.insert.new.self c.scid-scid.result row (own c) parts.kept.rows.channels_keyed parts.kept.rows.channels_ascend in
+          rw (w.result-is, w.self-inside-is) (with_channel-new c.args.self.now _ row (absent c)
+          (ap (λ rows. ends_banned rows.banned row) (sym parts.seen) ∙ allowed c)
+          (put_is ∙ ap (λ rows. put by_id rows.channels row) parts.seen)
+          (same_updates entries c.insert.new.self c.scid-scid.result row (own c) ∙ ap (λ rows. rows.updates) parts.seen)
+          (ap (λ rows. rows.nodes) parts.seen) (ap (λ rows. rows.banned) parts.seen))
+      | in-Err w ↦ rw w.result-is tt
+    ]
 
-pub returns-in-Err-clause-same : goal.returns-in-Err-clause-same
-returns-in-Err-clause-same c = λ _.
-    let entries = c.self.inside.channels in
-    let stored = c.new-stored.ensures ∙ ap alone c.in_ok-share.ensures in
-    let is_new = ap (λ (b : Bool). Ok b) c.if-not-branch.false in
-    let its =
-    added entries c.insert.new.self c.scid-scid.result c.args.row.now c.new-stored.result stored c.scid-scid.ensures
-    (c.in_ok-insert.ensures.new is_new) (c.in_ok-insert.ensures.added is_new) in
-    rw (restored entries c.insert.new.self c.discard.new.self c.scid-scid.result c.args.row.now its c.discard.ensures.left) c.self.view_is
+pub returns-clause-new : goal.returns-clause-new
+returns-clause-new c = λ _. absent c
+
+pub returns-clause-allowed : goal.returns-clause-allowed
+returns-clause-allowed c = λ _.
+    let parts = opened c.deref_mut-parts.ensures.value c.self.invariant c.self.view_is in
+    ap (λ rows. ends_banned rows.banned c.args.row.now) (sym parts.seen) ∙ allowed c
+
+pub returns-clause-same : goal.returns-clause-same
+returns-clause-same c =
+    let parts = opened c.deref_mut-parts.ensures.value c.self.invariant c.self.view_is in
+    elim c.match-add.branch [
+      | in-Ok w ↦ λ other. absurd (other w.result-is)
+      | in-Err w ↦ λ _. rw (
+        w.self-inside-is,
+        restored c.deref_mut-parts.result.now.channels c.insert.new.self w.discard.new.self
+            c.scid-scid.result c.args.row.now (own c) w.discard.ensures.left,
+      ) parts.seen
+    ]

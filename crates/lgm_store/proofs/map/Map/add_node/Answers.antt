@@ -10,6 +10,7 @@ use Rattle.lgm_store.specs.Rows.{node_of, ends_channel, is_banned}
 use Rattle.lgm_store.proofs.DecisionLaws.{node-admitted}
 use Rattle.lgm_store.proofs.Lists.{lookup-node}
 use Rattle.lgm_store.proofs.StoredUpdateLaws.{node-kept, node-rows}
+use Rattle.lgm_store.proofs.map.Opened.{opened}
 use Rattle.lgm_store.proofs.map.Map.add_node.Goals as goal
 use Rattle.lgm_store.proofs.map.Map.add_node.Goals.{In_ok-put_newer, Else-not-branch}
 
@@ -29,9 +30,10 @@ admitted : (c : In_ok-put_newer) (added : Bool) → c.in_ok-put_newer.field-0 �
     (ends_channel c.args.self.now.channels (point_of c.args.row.now))
     (node_of c.args.self.now.nodes (point_of c.args.row.now)) c.args.row.now.message.timestamp) ≡ added
 admitted c added tested =
+    let parts = opened c.deref_mut.ensures.value c.self.invariant c.self.view_is in
     let stored =
-    lookup-node c.self.inside.nodes (point_of c.args.row.now) c.self.invariant.rows.nodes_keyed
-    ∙ ap (λ rows. node_of rows.nodes (point_of c.args.row.now)) c.self.view_is in
+    lookup-node c.deref_mut.result.now.nodes (point_of c.args.row.now) parts.kept.rows.nodes_keyed
+    ∙ ap (λ rows. node_of rows.nodes (point_of c.args.row.now)) parts.seen in
     node-admitted _ _ _ c.args.row.now (allowed c) (ended c)
     ∙ ap (λ (o : Option NodeRow). node_is_newer o c.args.row.now) (sym stored)
     ∙ c.put_newer.ensures.newer added (c.in_ok-put_newer.was ∙ ap (λ (b : Bool). Ok b) tested)
@@ -46,15 +48,17 @@ returns-clause-admitted c = λ added is.
 
 pub invariant_of-self-2 : goal.invariant_of-self-2
 invariant_of-self-2 c =
+    let parts = opened c.deref_mut.ensures.value c.self.invariant c.self.view_is in
     let answered = c.in_ok-put_newer.was ∙ ap (λ (b : Bool). Ok b) c.if-not-branch.false in
-    node-kept c.self.inside.channels c.self.inside.nodes c.put_newer.new.self c.self.inside.ends c.self.inside.banned
-    c.args.row.now c.self.invariant (c.put_newer.ensures.put answered) (c.put_newer.ensures.ascend answered)
+    node-kept c.deref_mut.result.now.channels c.deref_mut.result.now.nodes c.put_newer.new.self c.deref_mut.result.now.ends c.deref_mut.result.now.banned
+    c.args.row.now parts.kept (c.put_newer.ensures.put answered) (c.put_newer.ensures.ascend answered)
     (subst (λ (row : NodeRow). Wire (wired.NodeAnnounce row.message) row.raw) c.get-2.ensures c.bytes_encode_row.ensures)
-    (ap (λ rows. ends_channel rows.channels (point_of c.args.row.now)) c.self.view_is ∙ ended c.before)
+    (ap (λ rows. ends_channel rows.channels (point_of c.args.row.now)) parts.seen ∙ ended c.before)
 
 pub returns-clause-stored : goal.returns-clause-stored
 returns-clause-stored c = λ _.
+    let parts = opened c.deref_mut.ensures.value c.self.invariant c.self.view_is in
     let answered = c.in_ok-put_newer.was ∙ ap (λ (b : Bool). Ok b) c.if-not-branch.false in
-    node-rows c.self.inside.channels c.self.inside.nodes c.put_newer.new.self c.self.inside.ends c.self.inside.banned
-    c.args.row.now c.self.invariant (c.put_newer.ensures.put answered) (c.put_newer.ensures.ascend answered)
-    c.args.self.now c.self.view_is (ended c.before)
+    node-rows c.deref_mut.result.now.channels c.deref_mut.result.now.nodes c.put_newer.new.self c.deref_mut.result.now.ends c.deref_mut.result.now.banned
+    c.args.row.now parts.kept (c.put_newer.ensures.put answered) (c.put_newer.ensures.ascend answered)
+    c.args.self.now parts.seen (ended c.before)

@@ -8,6 +8,7 @@ use Rattle.lgm_store.specs.inner.ChannelTable.{id_in}
 use Rattle.lgm_store.proofs.ChannelMapLaws.{ascend-stored}
 use Rattle.lgm_store.proofs.ChannelWithUpdates.{values-stored_at, filter-past, filter-keyed}
 use Rattle.lgm_store.proofs.IterationLaws.{forward, within, backward, never}
+use Rattle.lgm_store.proofs.map.Opened.{opened}
 use Rattle.lgm_store.proofs.map.Map.channels_between.Goals as goal
 use Rattle.lgm_store.proofs.map.Map.channels_between.Goals.{then-from-to, else-from-to}
 
@@ -21,7 +22,8 @@ range-channels-requires c =
 
 pub returns : goal.returns
 returns c =
-    let sound = c.self.invariant.rows in
+    let parts = opened c.deref.ensures c.self.invariant c.self.view_is in
+    let sound = parts.kept.rows in
     let start = c.start_of-start.result in
     let ranged : (id : ℕ) → is_between id c.args.from c.args.to ≡ true → range_contains nat_cmp (Included start) c.if-from-to.end id ≡ true =
     λ id between. elim c.if-from-to.branch [
@@ -31,9 +33,9 @@ returns c =
     ] in
     c.new.ensures ∙ ap (filter (λ stored. is_between (id_in stored) c.args.from c.args.to)) c.range-channels.ensures
     ∙ filter-keyed (λ id. is_between id c.args.from c.args.to)
-    (range_contains nat_cmp (Included start) c.if-from-to.end) c.self.inside.channels sound.channels_keyed
+    (range_contains nat_cmp (Included start) c.if-from-to.end) c.deref.result.now.channels sound.channels_keyed
     ∙ ap values_of (filter-past (λ e. range_contains nat_cmp (Included start) c.if-from-to.end e.0)
-    (λ e. is_between e.0 c.args.from c.args.to) c.self.inside.channels (λ e. ranged e.0))
-    ∙ values-stored_at c.self.inside.channels c.args.self.now sound.channels_keyed sound.updates_keyed
-    (ascend-stored c.self.inside.channels sound.channels_ascend) (ap (λ rows. rows.channels) c.self.view_is) (ap (λ rows. rows.updates) c.self.view_is)
+    (λ e. is_between e.0 c.args.from c.args.to) c.deref.result.now.channels (λ e. ranged e.0))
+    ∙ values-stored_at c.deref.result.now.channels c.args.self.now sound.channels_keyed sound.updates_keyed
+    (ascend-stored c.deref.result.now.channels sound.channels_ascend) (ap (λ rows. rows.channels) parts.seen) (ap (λ rows. rows.updates) parts.seen)
     (λ id. is_between id c.args.from c.args.to)

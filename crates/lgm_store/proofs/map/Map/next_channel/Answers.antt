@@ -13,6 +13,7 @@ use Rattle.lgm_store.specs.Reading.{next_channel_of}
 use Rattle.lgm_store.specs.inner.Start.{start_after}
 use Rattle.lgm_store.proofs.ChannelMapLaws.{first-filtered}
 use Rattle.lgm_store.proofs.IterationLaws.{first_value, next_channel-between}
+use Rattle.lgm_store.proofs.map.Opened.{opened}
 use Rattle.lgm_store.proofs.map.Map.next_channel.Goals as goal
 
 abbrev some_row : ChannelRow → Option ChannelRow
@@ -38,16 +39,18 @@ next_is channels start entries after rows is start_is keyed rows_are =
 
 pub returns-in_err-stored : goal.returns-in_err-stored
 returns-in_err-stored c =
+    let parts = opened c.deref.ensures c.self.invariant c.self.view_is in
     c.from_residual.ensures ∙ ap first_channel (sym c.in_err-stored.ensures.steps.0)
-    ∙ next_is c.range-channels.result c.start_after.result c.self.inside.channels c.args.after
+    ∙ next_is c.range-channels.result c.start_after.result c.deref.result.now.channels c.args.after
     c.args.self.now.channels c.range-channels.ensures c.start_after.ensures
-    c.self.invariant.rows.channels_keyed
-    (ap (λ rows. rows.channels) c.self.view_is)
+    parts.kept.rows.channels_keyed
+    (ap (λ rows. rows.channels) parts.seen)
 
 pub returns : goal.returns
 returns c =
+    let parts = opened c.deref.ensures c.self.invariant c.self.view_is in
     ap some_row c.row.ensures ∙ ap first_channel (sym c.in_ok-stored.ensures.steps)
-    ∙ next_is c.range-channels.result c.start_after.result c.self.inside.channels c.args.after
+    ∙ next_is c.range-channels.result c.start_after.result c.deref.result.now.channels c.args.after
     c.args.self.now.channels c.range-channels.ensures c.start_after.ensures
-    c.self.invariant.rows.channels_keyed
-    (ap (λ rows. rows.channels) c.self.view_is)
+    parts.kept.rows.channels_keyed
+    (ap (λ rows. rows.channels) parts.seen)

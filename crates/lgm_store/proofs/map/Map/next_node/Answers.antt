@@ -10,6 +10,7 @@ use Rattle.lgm_store.specs.Keys.{IsKeyed, point_cmp, point_of}
 use Rattle.lgm_store.specs.Reading.{next_node_of}
 use Rattle.lgm_store.specs.inner.Start.{start_after}
 use Rattle.lgm_store.proofs.IterationLaws.{first_value, next_node-between}
+use Rattle.lgm_store.proofs.map.Opened.{opened}
 use Rattle.lgm_store.proofs.map.Map.next_node.Goals as goal
 
 abbrev some_row : NodeRow → Option NodeRow
@@ -33,14 +34,16 @@ next_is nodes start entries after rows is start_is keyed rows_are =
 
 pub returns-in_err-stored : goal.returns-in_err-stored
 returns-in_err-stored c =
+    let parts = opened c.deref.ensures c.self.invariant c.self.view_is in
     c.from_residual.ensures ∙ ap first_row (sym c.in_err-stored.ensures.steps.0)
-    ∙ next_is c.range-nodes.result c.start_after.result c.self.inside.nodes (option_copied c.args.after)
+    ∙ next_is c.range-nodes.result c.start_after.result c.deref.result.now.nodes (option_copied c.args.after)
     c.args.self.now.nodes c.range-nodes.ensures (c.start_after.ensures ∙ ap start_after c.copied.ensures)
-    c.self.invariant.rows.nodes_keyed (ap (λ rows. rows.nodes) c.self.view_is)
+    parts.kept.rows.nodes_keyed (ap (λ rows. rows.nodes) parts.seen)
 
 pub returns : goal.returns
 returns c =
+    let parts = opened c.deref.ensures c.self.invariant c.self.view_is in
     ap some_row c.row.ensures ∙ ap first_row (sym c.in_ok-stored.ensures.steps)
-    ∙ next_is c.range-nodes.result c.start_after.result c.self.inside.nodes (option_copied c.args.after)
+    ∙ next_is c.range-nodes.result c.start_after.result c.deref.result.now.nodes (option_copied c.args.after)
     c.args.self.now.nodes c.range-nodes.ensures (c.start_after.ensures ∙ ap start_after c.copied.ensures)
-    c.self.invariant.rows.nodes_keyed (ap (λ rows. rows.nodes) c.self.view_is)
+    parts.kept.rows.nodes_keyed (ap (λ rows. rows.nodes) parts.seen)

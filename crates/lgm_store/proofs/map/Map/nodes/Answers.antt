@@ -1,8 +1,10 @@
 use Rattle.std.proofs.Common.{◌∙◌, ap}
 use Rattle.std.specs.Map.{values_of}
+use Rattle.lgm_store.proofs.map.Opened.{opened}
 use Rattle.lgm_store.proofs.map.Map.nodes.Goals as goal
 use Rattle.lgm_store.proofs.ListLaws.{filter-true}
 
 pub returns : goal.returns
 returns c =
-    c.range.ensures ∙ ap values_of (filter-true c.self.inside.nodes) ∙ ap (λ rows. rows.nodes) c.self.view_is
+    let parts = opened c.deref.ensures c.self.invariant c.self.view_is in
+    c.range.ensures ∙ ap values_of (filter-true c.deref.result.now.nodes) ∙ ap (λ rows. rows.nodes) parts.seen

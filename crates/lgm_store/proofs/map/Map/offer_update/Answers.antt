@@ -13,30 +13,35 @@ use Rattle.lgm_store.proofs.ChannelMapLaws.{ascend-stored}
 use Rattle.lgm_store.proofs.ChannelWithUpdates.{channel_at, update_at}
 use Rattle.lgm_store.proofs.Kept.{rows_of}
 use Rattle.lgm_store.proofs.StoredUpdateLaws.{put-kept, put-rows}
+use Rattle.lgm_store.proofs.map.Opened.{opened}
 use Rattle.lgm_store.proofs.map.Map.offer_update.Goals as goal
 use Rattle.lgm_store.proofs.map.Map.offer_update.Goals.{Joined-offer_update, in-Ok, in-Err}
 
 -- the rows of the update's channel
 channel_is : (c : Joined-offer_update) → channel_of c.args.self.now.channels c.args.row.message.short_channel_id
-    ≡ option_map (λ h. h.channel) (lookup (is_at (nat_cmp c.args.row.message.short_channel_id)) c.self.inside.channels)
+    ≡ option_map (λ h. h.channel) (lookup (is_at (nat_cmp c.args.row.message.short_channel_id)) c.deref_mut.result.now.channels)
 channel_is c =
-    channel_at c.self.inside.channels c.args.self.now.channels c.args.row.message.short_channel_id
-    c.self.invariant.rows.channels_keyed (ap (λ rows. rows.channels) c.self.view_is)
+    let parts = opened c.deref_mut.ensures.value c.self.invariant c.self.view_is in
+    channel_at c.deref_mut.result.now.channels c.args.self.now.channels c.args.row.message.short_channel_id
+    parts.kept.rows.channels_keyed (ap (λ rows. rows.channels) parts.seen)
 
 update_is : (c : Joined-offer_update) → update_of c.args.self.now.updates c.args.row.message.short_channel_id (is_second c.args.row)
-    ≡ option_and_then (update_in (is_second c.args.row)) (lookup (is_at (nat_cmp c.args.row.message.short_channel_id)) c.self.inside.channels)
+    ≡ option_and_then (update_in (is_second c.args.row)) (lookup (is_at (nat_cmp c.args.row.message.short_channel_id)) c.deref_mut.result.now.channels)
 update_is c =
-    update_at c.self.inside.channels c.args.self.now.updates c.args.row.message.short_channel_id
-    (is_second c.args.row) c.self.invariant.rows.updates_keyed
-    (ascend-stored c.self.inside.channels c.self.invariant.rows.channels_ascend) (ap (λ rows. rows.updates) c.self.view_is)
+    let parts = opened c.deref_mut.ensures.value c.self.invariant c.self.view_is in
+    update_at c.deref_mut.result.now.channels c.args.self.now.updates c.args.row.message.short_channel_id
+    (is_second c.args.row) parts.kept.rows.updates_keyed
+    (ascend-stored c.deref_mut.result.now.channels parts.kept.rows.channels_ascend) (ap (λ rows. rows.updates) parts.seen)
 
 pub invariant_of-self : goal.invariant_of-self
-invariant_of-self c = elim c.match-offer_update.branch [
-  | in-Ok w ↦ rw w.in-Ok.ensures.accepted (put-kept c.self.inside.channels c.self.inside.nodes
-      c.self.inside.ends c.self.inside.banned c.args.row c.self.invariant
-      (subst (λ (row : UpdateRow). Wire (wired.ChannelUpdate row.message) row.raw) c.get.ensures c.bytes_encode_row.ensures))
-  | in-Err w ↦ rw w.in-Err.ensures.refused c.self.invariant
-]
+invariant_of-self c =
+    let parts = opened c.deref_mut.ensures.value c.self.invariant c.self.view_is in
+    elim c.match-offer_update.branch [
+      | in-Ok w ↦ rw w.in-Ok.ensures.accepted (put-kept c.deref_mut.result.now.channels c.deref_mut.result.now.nodes
+          c.deref_mut.result.now.ends c.deref_mut.result.now.banned c.args.row parts.kept
+          (subst (λ (row : UpdateRow). Wire (wired.ChannelUpdate row.message) row.raw) c.get.ensures c.bytes_encode_row.ensures))
+      | in-Err w ↦ rw w.in-Err.ensures.refused parts.kept
+    ]
 
 pub returns-clause-admission : goal.returns-clause-admission
 returns-clause-admission c = elim c.match-offer_update.branch [
@@ -45,9 +50,11 @@ returns-clause-admission c = elim c.match-offer_update.branch [
 ]
 
 pub returns-clause-accepted : goal.returns-clause-accepted
-returns-clause-accepted c = elim c.match-offer_update.branch [
-  | in-Ok w ↦ rw w.result-is (ap (λ (es : List (ℕ × ChannelInfo)). rows_of es c.self.inside.nodes c.self.inside.banned) w.in-Ok.ensures.accepted
-      ∙ put-rows c.self.inside.channels c.self.inside.nodes c.self.inside.ends c.self.inside.banned
-      c.args.row c.self.invariant c.args.self.now c.self.view_is)
-  | in-Err w ↦ rw w.result-is tt
-]
+returns-clause-accepted c =
+    let parts = opened c.deref_mut.ensures.value c.self.invariant c.self.view_is in
+    elim c.match-offer_update.branch [
+      | in-Ok w ↦ rw w.result-is (ap (λ (es : List (ℕ × ChannelInfo)). rows_of es c.deref_mut.result.now.nodes c.deref_mut.result.now.banned) w.in-Ok.ensures.accepted
+          ∙ put-rows c.deref_mut.result.now.channels c.deref_mut.result.now.nodes c.deref_mut.result.now.ends c.deref_mut.result.now.banned
+          c.args.row parts.kept c.args.self.now parts.seen)
+      | in-Err w ↦ rw w.result-is tt
+    ]

@@ -3,15 +3,18 @@ use Rattle.lgm_gossip.specs.Message.{Wire}
 use Rattle.lgm_gossip.specs.declared.message.Message.TheVariants as wired
 use Rattle.lgm_check.specs.declared.row.UpdateRow.{UpdateRow}
 use Rattle.lgm_store.proofs.StoredUpdateLaws.{put-kept, put-rows}
+use Rattle.lgm_store.proofs.map.Opened.{opened}
 use Rattle.lgm_store.proofs.map.Map.put_update.Goals as goal
 
 pub invariant_of-self : goal.invariant_of-self
 invariant_of-self c =
-    rw c.put_update.ensures (put-kept c.self.inside.channels c.self.inside.nodes c.self.inside.ends
-    c.self.inside.banned c.args.row c.self.invariant
+    let parts = opened c.deref_mut.ensures.value c.self.invariant c.self.view_is in
+    rw c.put_update.ensures (put-kept c.deref_mut.result.now.channels c.deref_mut.result.now.nodes c.deref_mut.result.now.ends
+    c.deref_mut.result.now.banned c.args.row parts.kept
     (subst (λ (row : UpdateRow). Wire (wired.ChannelUpdate row.message) row.raw) c.get.ensures c.bytes_encode_row.ensures))
 
 pub returns : goal.returns
 returns c =
-    rw c.put_update.ensures (put-rows c.self.inside.channels c.self.inside.nodes c.self.inside.ends
-    c.self.inside.banned c.args.row c.self.invariant c.args.self.now c.self.view_is)
+    let parts = opened c.deref_mut.ensures.value c.self.invariant c.self.view_is in
+    rw c.put_update.ensures (put-rows c.deref_mut.result.now.channels c.deref_mut.result.now.nodes c.deref_mut.result.now.ends
+    c.deref_mut.result.now.banned c.args.row parts.kept c.args.self.now parts.seen)
