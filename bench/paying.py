@@ -153,7 +153,8 @@ def paid(world, ends, amount, way, estimates):
     limits = []
     for tries in range(1, TRIES + 1):
         try:
-            route = world.network.route(*ends, amount, HEIGHT, SECRET, limits=limits, most_delay=BLOCKS, estimates=estimates, **liked)
+            route = world.network.route(*ends, amount, HEIGHT, SECRET, limits=limits, most_delay=BLOCKS, estimates=estimates,
+                                        **liked)
         except (lgm.NoRoute, lgm.Undecided):
             break
         failed = failing(route, world.balances)

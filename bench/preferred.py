@@ -117,7 +117,8 @@ def print_payments(options, made, numbers):
         askings = (Asking("plain", {}), Asking("preferred", {**liked, "estimates": nothing}),
                    Asking(f"preferred, {len(estimates):,} estimates", {**liked, "estimates": estimates}))
         for most_delay in DELAYS:
-            print(f"{f'within {most_delay:,} blocks' if most_delay else 'any delay':<44}" + "".join(f"{it:>11}" for it in COLUMNS))
+            limit = f"within {most_delay:,} blocks" if most_delay else "any delay"
+            print(f"{limit:<44}" + "".join(f"{column:>11}" for column in COLUMNS))
             for sat in AMOUNTS:
                 payments = [(*numbers.sample(made.nodes, 2), 1_000 * sat) for _ in range(options.payments)]
                 answered(network, payments[0])  # builds the view

@@ -78,7 +78,7 @@ def random_terms(numbers):
 
 
 def random_network(numbers):
-    """A network of 3 to 6 nodes and 3 to 12 directions, most of which join neighbours, so that few walks are of one edge alone."""
+    """A network of 3 to 6 nodes and 3 to 12 directions. Most join neighbours, so that few walks are of one edge alone."""
     nodes, directions = numbers.choice((3, 3, 3, 4, 4, 5, 6)), numbers.choice((3, 6, 9, 11, 12, 12, 12, 12))
     channels, updates = [], []
     while len(updates) < directions:

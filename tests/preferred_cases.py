@@ -50,6 +50,9 @@ FAILURE = Preferences(failure=1_000)
 THREE = Preferences(failure=3)
 # Channel 2 carries up to 1,999 msat, so its odds for 1,000 are 1,000 / (1,999 - 1,000 + 1) = 1 to 1. Those of 50,000,000 are 0.
 HALF = (10, 1_999)
+# The example of docs/protocol.md.
+EXAMPLE = two_ways((500, 2_000_000), (1_500, 100_000_000))
+MILLION, LIKELY = Payment(0, 2, 1_000_000), Preferences(20_000, 500)
 ROW = [road(1, 0, 1), road(2, 1, 2), road(3, 2, 3, delta=34)]
 ALONG = Payment(0, 3, 1_000)
 CASES = (
@@ -98,13 +101,17 @@ CASES = (
     Case("so with 1,100 msat that surely pass there is none",
          [road(1, 0, 1), road(2, 1, 3, most=2_099), road(4, 1, 3, 99), road(5, 3, 2, 100)], [1, 2, 5], 1_100, FAILURE,
          {(2, 1): Estimate(least=1_100)}),
+    Case("the example: the dearer channel arrives", EXAMPLE, [1, 3], 1_001_500, LIKELY, payment=MILLION),
+    Case("its other channel has carried the amount", EXAMPLE, [1, 2], 1_000_500, LIKELY, {(2, 1): Estimate(least=1_000_000)},
+         MILLION),
+    Case("its dearer channel has failed to", EXAMPLE, [1, 2], 1_000_500, LIKELY, {(3, 1): Estimate(most=999_999)}, MILLION),
     Case("a walk may have as many edges as are allowed", ROW, [1, 2, 3], 1_000, payment=ALONG, most_hops=3),
     Case("and no more", ROW, [], payment=ALONG, most_hops=2),
     Case("with fewer hops a dearer walk is the best one", [*ROW, road(4, 1, 3, 700)], [1, 4], 1_700, payment=ALONG, most_hops=2),
     Case("a walk may delay by as many blocks as are allowed", ROW, [1, 2, 3], 1_000, payment=ALONG, most_delay=74),
     Case("and by no more", ROW, [], payment=ALONG, most_delay=73),
-    Case("a delay within the limit costs nothing", [road(1, 0, 1), road(2, 1, 2, 0, delta=2_016), road(3, 1, 2, 1, delta=0)], [1, 2],
-         1_000, FAILURE, most_delay=2_016))
+    Case("a delay within the limit costs nothing", [road(1, 0, 1), road(2, 1, 2, 0, delta=2_016), road(3, 1, 2, 1, delta=0)],
+         [1, 2], 1_000, FAILURE, most_delay=2_016))
 
 
 def network_of(roads):
@@ -121,8 +128,9 @@ def asked(case, network, **budget):
             estimates.set(scid(block), point(start), *known)
         try:
             return network.route(
-                point(payment.payer), point(payment.payee), payment.amount, EXPIRY, SECRET, preferences=lgm.Preferences(*case.liked),
-                estimates=estimates, most_delay=case.most_delay, most_hops=case.most_hops, **budget)
+                point(payment.payer), point(payment.payee), payment.amount, EXPIRY, SECRET,
+                preferences=lgm.Preferences(*case.liked), estimates=estimates, most_delay=case.most_delay,
+                most_hops=case.most_hops, **budget)
         except lgm.Fault as fault:
             return fault.word
 
