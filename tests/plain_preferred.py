@@ -32,8 +32,8 @@ import lgm_library
 import preferred_cases
 from gossip.notation import SECRET
 from plain_overlays import (
-    BIT_0, CAPACITY, NOTHING, Channel, Network, Overlay, Update, carrying, difference, edges_over, extra_edge, key, opened, point,
-    random_overlay, scid, steps_in)
+    BIT_0, CAPACITY, NOTHING, Channel, Network, Overlay, Update, carrying, difference, edges_over, extra_edge, key, opened,
+    point, random_overlay, scid, steps_in)
 from plain_walks import (
     EXPIRY, MOST_AMOUNT, MOST_CHANNELS, Estimate, Payment, Preferences, Road, Terms, best, delay, pair, preferred, usable)
 
@@ -78,26 +78,27 @@ def random_terms(numbers):
 
 
 def random_network(numbers):
-    """A network of 3 to 6 nodes and 3 to 12 directions. Most join neighbours, so that few walks are of one edge alone."""
-    nodes, directions = numbers.choice((3, 3, 3, 4, 4, 5, 6)), numbers.choice((3, 6, 9, 11, 12, 12, 12, 12))
+    """A network of 3 to 6 nodes and 3 to 12 directions, most of which lead to the next node, so that walks are long."""
+    nodes, directions = numbers.choice((3, 4, 4, 5, 5, 6)), numbers.choice((3, 6, 9, 11, 12, 12, 12, 12))
     channels, updates = [], []
     while len(updates) < directions:
         block, (first, second) = len(channels), pair(numbers, nodes)
         if numbers.randrange(4):
             first = second - 1
         channels.append(Channel(block, (first, second), b""))
-        which = numbers.randrange(3)
-        for start, end in [(first, second)] * (which != 0) + [(second, first)] * (which != 1):
+        which = numbers.randrange(8)
+        for start, end in [(first, second)] * (which != 0) + [(second, first)] * (which < 2):
             updates.append(Update(Road(block, start, end, random_terms(numbers)), False))
     return Network(channels, updates[:directions], []), nodes
 
 
 def random_payment(numbers, nodes):
-    """About 1,000 msat between two nodes, mostly not between neighbours."""
-    ends = sorted(numbers.sample(range(nodes), 2))
-    if ends[1] - ends[0] == 1 and numbers.randrange(4):
-        ends = [0, nodes - 1]
-    payer, payee = ends if numbers.randrange(2) else reversed(ends)
+    """About 1,000 msat between two nodes, mostly far ones."""
+    payer, payee = sorted(numbers.sample(range(nodes), 2))
+    if payee - payer == 1 and numbers.randrange(4):
+        payer, payee = 0, nodes - 1
+    if not numbers.randrange(8):
+        payer, payee = payee, payer
     return Payment(payer, payee, numbers.choice(AMOUNTS))
 
 

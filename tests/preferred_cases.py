@@ -9,13 +9,13 @@ import time
 from typing import NamedTuple
 
 import lgm
-from gossip.hostile import AMOUNT, PAYER, Hostile, messages
+from gossip.hostile import AMOUNT, PAYER, PAYER_NUMBER, Hostile, messages
 from gossip.messages import CHAIN, CHANNEL_UPDATE, decode, kind_of
 from gossip.networks import Network as MadeNetwork
 from gossip.notation import SECRET
 from gossip.workloads import SLOWEST, WORKLOADS
 from plain_overlays import Channel, Network, Update, opened, point, scid, steps_in
-from plain_walks import EXPIRY, MOST_AMOUNT, MOST_CHANNELS, Estimate, Payment, Preferences, Road, Terms, preferred
+from plain_walks import EXPIRY, MOST_AMOUNT, MOST_CHANNELS, Estimate, Payment, Preferences, Road, Terms, delay, preferred, usable
 
 SECONDS = 2  # of CPU time, for a payment that is to take less than 0.2
 PAYMENT = Payment(0, 2, 1_000)
@@ -67,6 +67,8 @@ CASES = (
          Preferences(hop=99)),
     Case("of as many hops that cost the same, the least ids, though the other one sends less",
          two_ways((100,), (0,)), [1, 2], 1_100, known={(3, 1): Estimate(penalty=100)}),
+    Case("ids are compared from the payer on", [road(1, 0, 1), road(5, 1, 3), road(6, 3, 2), road(3, 1, 4), road(9, 4, 2)],
+         [1, 3, 9], 1_000, FAILURE),
     Case("1 msat less decides over ids", two_ways((100,), (0,)), [1, 3], 1_000, known={(3, 1): Estimate(penalty=99)}),
     Case("an estimate of exactly the amount leaves no odds", two_ways(HALF, (10,)), [1, 2], 1_010, FAILURE,
          {(2, 1): Estimate(least=1_000)}),
@@ -108,6 +110,11 @@ CASES = (
     Case("a walk may have as many edges as are allowed", ROW, [1, 2, 3], 1_000, payment=ALONG, most_hops=3),
     Case("and no more", ROW, [], payment=ALONG, most_hops=2),
     Case("with fewer hops a dearer walk is the best one", [*ROW, road(4, 1, 3, 700)], [1, 4], 1_700, payment=ALONG, most_hops=2),
+    Case("a cheap way of many hops leaves no room for those in front of it",
+         [road(1, 0, 1), road(2, 1, 2), road(3, 2, 3), road(4, 3, 4), road(5, 4, 5), road(6, 2, 4, 700)], [1, 2, 6, 5], 1_700,
+         FAILURE, payment=Payment(0, 5, 1_000), most_hops=4),
+    Case("and a cheap way that is slow none for a delay", [*ROW, road(4, 1, 2, 700, delta=10)], [1, 4, 3], 1_700, FAILURE,
+         payment=ALONG, most_delay=73),
     Case("a walk may delay by as many blocks as are allowed", ROW, [1, 2, 3], 1_000, payment=ALONG, most_delay=74),
     Case("and by no more", ROW, [], payment=ALONG, most_delay=73),
     Case("a delay within the limit costs nothing", [road(1, 0, 1), road(2, 1, 2, 0, delta=2_016), road(3, 1, 2, 1, delta=0)],
@@ -191,6 +198,19 @@ def hostile_faults(hostile, **liked):
             yield f"it took {taken:.1f} s"
 
 
+def small_faults():
+    """What is wrong with small hostile networks by the plain program: the walks that fit are those from the given fee on."""
+    for least_fee in (None, 1, 4, 7):
+        hostile = Hostile(3, 2, least_fee)
+        roads = [Road(block, it.start, it.end, Terms(delta=it.delay, base=it.fee, most=it.most))
+                 for block, it in enumerate(hostile.edges(), 1)]
+        payment = Payment(PAYER_NUMBER, hostile.row(hostile.links), AMOUNT)
+        fitting = [steps[0].amount - AMOUNT for steps in usable(roads, payment) if delay(steps) <= hostile.most_delay]
+        wanted = [] if least_fee is None else list(range(least_fee, hostile.most_fee + 1))
+        if sorted(fitting) != wanted:
+            yield f"{hostile}: walks with fees {sorted(fitting)} fit, and not {wanted}"
+
+
 def poisoned_faults():
     """What is wrong where each node's cheapest update has a delta of 65,535: the routes within 2,016 blocks have to be those
     without these updates, but for the payer's own, whose delta doesn't count."""
@@ -226,6 +246,7 @@ def run():
     """Runs all of them. How many passed, and how many failed, of which it prints what is wrong."""
     tests = {case.sentence: case_faults(case) for case in CASES}
     tests["a budget of one label, and of one step"] = list(budget_faults())
+    tests["which walks of a hostile network fit"] = list(small_faults())
     for links, sides in ((10, 500), (13, 30)):
         for least_fee in (None, 1, 2 ** (links - 1)):
             hostile = Hostile(links, sides, least_fee)
