@@ -110,7 +110,7 @@ def learn(numbers, learnt, edge):
     if kind < 3:
         given = Estimate(numbers.choice(BOUNDS), numbers.choice(BOUNDS), numbers.choice(PENALTIES))
         learnt.plain[edge] = given
-        learnt.library.set(*name, *given)
+        preferred_cases.believe(learnt.library, edge, given)
     elif kind == 3:
         learnt.plain[edge] = before.carried(amount)
         learnt.library.carried(*name, amount)

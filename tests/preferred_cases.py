@@ -127,12 +127,18 @@ def network_of(roads):
     return Network(list(channels.values()), [Update(it, False) for it in roads], [])
 
 
+def believe(estimates, edge, known):
+    """Sets the library's estimate of an edge, by its block and node."""
+    block, start = edge
+    estimates.set(scid(block), point(start), known.least, known.most, known.penalty)
+
+
 def asked(case, network, **budget):
     """The library's route for a case, or the word of its fault."""
     payment = case.payment
     with lgm.Estimates() as estimates:
-        for (block, start), known in case.known.items():
-            estimates.set(scid(block), point(start), *known)
+        for edge, known in case.known.items():
+            believe(estimates, edge, known)
         try:
             return network.route(
                 point(payment.payer), point(payment.payee), payment.amount, EXPIRY, SECRET,
