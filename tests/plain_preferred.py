@@ -122,6 +122,16 @@ def learn(numbers, learnt, edge):
         learnt.library.forget(*name)
 
 
+def unlike(learnt):
+    """What the library believes otherwise than the plain program."""
+    if len(learnt.library) != len(learnt.plain):
+        yield f"{len(learnt.library)} estimates, and not {len(learnt.plain)}"
+    for (block, start), known in learnt.plain.items():
+        found = learnt.library.get(scid(block), point(start))
+        if (found.least_msat, found.most_msat, found.penalty_msat) != known:
+            yield f"of {block} out of {start} it is believed that {found}, and not {known}"
+
+
 def answer(network, question, estimates, **budget):
     """The steps that the library finds, none if there is no route, or the word of another fault; and whether they are the
     best ones."""
@@ -220,8 +230,7 @@ def objections(numbers, seen):
             roads = edges_over(made, True, overlay)
             for edge in numbers.choices([key(road) for road in [*roads, *carrying(made)]], k=numbers.randrange(4)):
                 learn(numbers, learnt, edge)
-            if len(estimates) != len(learnt.plain):
-                wrong.append(f"{len(estimates)} estimates, and not {len(learnt.plain)}")
+            wrong += unlike(learnt)
             liked = Preferences(numbers.choice(FAILURES), numbers.choice(HOPS))
             question = Question(random_payment(numbers, nodes), overlay, liked, dict(learnt.plain))
             wrong += compared(numbers, network, roads, question, estimates, seen)
