@@ -80,6 +80,12 @@ def test_plain_overlays(out):
     report("plain overlays", subprocess.run(words, check=False).returncode == 0)
 
 
+def test_plain_preferred(out):
+    """Payments by what a payer prefers have the routes that a plain program finds."""
+    words = [sys.executable, TOP / "tests" / "plain_preferred.py", out / "liblgm.so"]
+    report("plain preferred", subprocess.run(words, check=False).returncode == 0)
+
+
 def test_installed(prefix, folder):
     """A program is built by what lgm.pc says, and runs with the shared object of the header's version."""
     version = re.search(r"#define LGM_VERSION (\d+)", (TOP / "include" / "lgm.h").read_text())[1]
@@ -615,6 +621,7 @@ def main():
         test_exports(out)
         test_calls(out)
         test_plain_overlays(out)
+        test_plain_preferred(out)
         test_installed(prefix, out)
         test_c(out)
         test_faults(out)
