@@ -1,5 +1,5 @@
 -- When a route is searched for, and what the search for an attempt gives.
-use Rattle.std.proofs.Common.{◌≡◌, ◌×◌, ◌⊎◌, ⊥, ℕ, ◌≤◌, ◌<◌, Bool, true, false, List, [], length, Option, Some, None, Result, Ok, Err}
+use Rattle.std.proofs.Common.{◌≡◌, ◌⊎◌, ℕ, ◌≤◌, ◌<◌, Bool, true, false, List, [], length, Option, Some, None, Result, Ok, Err}
 use Rattle.std.proofs.Common.{inl, inr, refl, sym, ap, subst, ◌∙◌, nat_lt}
 use Rattle.std.specs.Prelude.{if◌then◌else◌}
 use Rattle.std.proofs.lemmas.Bool.{le-ltb, lt-ltb}
@@ -8,7 +8,7 @@ use Rattle.lgm_graph.specs.declared.view.TheConstants.{MAX_CHANNELS}
 use Rattle.lgm_graph.specs.declared.route.Hop.{Hop}
 use Rattle.lgm_graph.specs.Edges.{PointEdge, AreKeyed, edges_of}
 use Rattle.lgm_graph.specs.Estimates.{Entries}
-use Rattle.lgm_graph.specs.Overlay.{no_overlay, IsNeutral}
+use Rattle.lgm_graph.specs.Overlay.{IsNeutral}
 use Rattle.lgm_route.specs.Answers.{refusal}
 use Rattle.lgm_route.specs.Choice.{answer_of, found_by}
 use Rattle.lgm_route.specs.Preferred.{penalty_at, preferred_answer, preferred_walk, no_limits, no_preferences, IsBeyond, NothingPreferred}
@@ -23,10 +23,10 @@ use Rattle.lgm_c.specs.declared.fault.Fault.{Fault}
 use Rattle.lgm_c.specs.declared.fault.Fault.TheVariants as faults
 use Rattle.lgm_c.specs.declared.routes.LgmPayment.{LgmPayment}
 use Rattle.lgm_store.specs.Rows.{Rows}
-use Rattle.lgm_c.specs.Attempts.{AttemptParts, attempt_given, plain_search, edges_for, answer_for, route_over, MayStop}
+use Rattle.lgm_c.specs.Attempts.{AttemptParts, plain_attempt, edges_for, answer_for, route_over, MayStop}
 use Rattle.lgm_c.specs.Routing.{found_or_unrouted, routed_in, route_asked, IsSearched}
 use Rattle.lgm_c.specs.Status.{unrouted, unfound}
-use Rattle.lgm_c.specs.inner.Searching.{IsFound, IsRouted, GivesRoute}
+use Rattle.lgm_c.specs.inner.Searching.{IsFound, IsRouted}
 
 module _ (penalty : PointEdge → ℕ → ℕ) (limits : RouteLimits) (edges : List PointEdge) (request : Request) where
   -- a request that is refused whatever the edges are needs no search
@@ -82,22 +82,34 @@ module _ (attempt : AttemptParts) (known : Option (List ℕ)) (rows : Rows) wher
         is_to_search = subst IsSearched (sym fits) (searches penalty attempt.limits edges attempt.request lawful)
 
         -- the route that was found
-        pub gives_found : (found : Found) → IsFound attempt known rows (Ok found) → IsRouted attempt known rows (Ok found)
-        gives_found found is = either found.is_best refl
+        pub gives_found : (result : Result Found SearchFault) (found : Found) → result ≡ Ok found → IsFound attempt known rows result
+            → IsRouted attempt known rows (Ok found)
+        gives_found result found was given = either found.is_best refl
           where
+            is : IsFound attempt known rows (Ok found)
+            is = subst (IsFound attempt known rows) was given
+
             either : (best : Bool) → found.is_best ≡ best → IsRouted attempt known rows (Ok found)
             either true best = inl (best, fits ∙ ap found_or_unrouted (sym (is.answer.0 best)))
-            either false not = inr (not, is_to_search, is.stops not, is.answer.1.0)
+            either false not = inr (not, is_to_search, is.stops not, is.answer.1)
 
-        -- or why there is none
-        pub gives_fault : (fault : SearchFault) → IsFound attempt known rows (Err fault)
+        -- why there is none
+        fault_given : (fault : SearchFault) → IsFound attempt known rows (Err fault)
             → IsRouted attempt known rows (Err (unfound fault))
-        gives_fault searched.Undecided is = inr (inr (is_to_search, is.stops tt, refl))
-        gives_fault (searched.Fault reason) is =
+        fault_given searched.Undecided is = inr (inr (is_to_search, is.stops tt, refl))
+        fault_given (searched.Fault reason) is =
             elim is.answer [
               | inl none ↦ inr (inl (is_to_search, ap unrouted none))
-              | inr no ↦ inl (fits ∙ ap found_or_unrouted (sym no))
+              | inr none ↦ inl (fits ∙ ap found_or_unrouted (sym none))
             ]
+
+        pub gives_fault : (found : Result Found SearchFault) (fault : SearchFault) (result : Result Found Fault)
+            → found ≡ Err fault → IsFound attempt known rows found → IsErrAnd result (λ f. f ≡ unfound fault)
+            → IsRouted attempt known rows result
+        gives_fault found fault (Ok other) was is err = absurd err
+        gives_fault found fault (Err f) was is err =
+            subst (λ f. IsRouted attempt known rows (Err f)) (sym err)
+            (fault_given fault (subst (IsFound attempt known rows) was is))
 
         -- and so did one that didn't get to it
         pub short_of_memory : (result : Result Found Fault) → IsErrAnd result (λ fault. fault ≡ faults.NoMemory)
@@ -108,36 +120,21 @@ module _ (attempt : AttemptParts) (known : Option (List ℕ)) (rows : Rows) wher
 -- ---- over the map alone
 
 -- the walk that sends least of all is within no limits
-never_beyond : (edges : List PointEdge) (request : Request) → IsBeyond no_limits edges request → ⊥
-never_beyond edges request (walk, least, beyond) = beyond (record { short = least.usable.bounded; in_time = tt })
+never_beyond : (all : List PointEdge) (request : Request) → IsBeyond no_limits all request → ⊥
+never_beyond all request (walk, least, beyond) = beyond (record { short = least.usable.few; in_time = tt })
 
 module _ (payment : LgmPayment) (known : Option (List ℕ)) (rows : Rows) where
   abbrev plain : AttemptParts
-  plain = attempt_given payment no_overlay [] plain_search
+  plain = plain_attempt payment
 
-  never_stops : MayStop plain known rows → ⊥
+  -- the search never stops
+  pub never_stops : MayStop plain known rows → ⊥
   never_stops stops =
       never_beyond (edges_for plain known rows) plain.request (stops.beyond (record { preferences = refl; known = refl }))
 
-  module _ (nothing : NothingPreferred) (neutral : IsNeutral) (keyed : AreKeyed (edges_for plain known rows)) where
-    is_asked : route_over plain known rows ≡ route_asked payment known rows
-    is_asked =
-        ap (routed_in rows) (nothing (edges_for plain known rows) plain.request keyed
-        ∙ ap (λ edges. answer_of edges plain.request) (neutral known rows))
-
-    -- the search never stops, and its answer is that of the map's edges
-    pub gives_plain : (result : Result Found Fault) → IsRouted plain known rows result
-        → GivesRoute (route_asked payment known rows) ⊥ (λ hops. ⊥) result
-    gives_plain (Ok found) is =
-        elim is [
-          | inl best ↦ inl (best.0, sym is_asked ∙ best.1)
-          | inr so_far ↦ absurd (never_stops so_far.2.0)
-        ]
-    gives_plain (Err fault) is =
-        elim is [
-          | inl no ↦ inl (sym is_asked ∙ no)
-          | inr other ↦ elim other [
-            | inl none ↦ inr (inl (subst IsSearched is_asked none.0, none.1))
-            | inr stopped ↦ absurd (never_stops stopped.1.0)
-          ]
-        ]
+  -- its answer is that of the map's edges
+  pub is_asked : NothingPreferred → IsNeutral → AreKeyed (edges_for plain known rows)
+      → route_over plain known rows ≡ route_asked payment known rows
+  is_asked nothing neutral keyed =
+      ap (routed_in rows) (nothing (edges_for plain known rows) plain.request keyed
+      ∙ ap (λ all. answer_of all plain.request) (neutral known rows))

@@ -1,5 +1,5 @@
 -- What is written of what was found.
-use Rattle.std.proofs.Common.{◌≡◌, ◌×◌, ◌⊎◌, ⊥, ℕ, Bool, true, false, List, Result, Ok, Err, inl, inr, refl, sym, ap, subst, ◌∙◌}
+use Rattle.std.proofs.Common.{◌≡◌, ◌⊎◌, ℕ, Bool, true, false, List, Result, Ok, Err, inl, inr, refl, sym, ap, subst, ◌∙◌}
 use Rattle.lgm_graph.specs.declared.route.Hop.{Hop}
 use Rattle.lgm_route.specs.declared.found.Found.{Found}
 use Rattle.lgm_c.specs.declared.fault.Fault.{Fault}
@@ -22,7 +22,7 @@ module _ (expected : Result (List Hop) Fault) (stops : Type 0) (is_route : List 
             ]))
         | inr so_far ↦
             elim (subst (λ is_best. WritesHops (number_written is_best) found.route secret status old new) so_far.0 wrote) [
-              | inl written ↦ inr (so_far.1, so_far.2.0, inr (found.route, so_far.2.1, written))
+              | inl written ↦ inr (so_far.1, so_far.2, inr (found.route, so_far.3, written))
               | inr none ↦ inl (inr (so_far.1, none.0, none.1))
             ]
       ]
@@ -32,18 +32,20 @@ module _ (expected : Result (List Hop) Fault) (stops : Type 0) (is_route : List 
       → WritesSoFar expected stops is_route secret status old new
   writes_fault fault is number same =
       elim is [
-        | inl no ↦ inl (inl (subst (λ answer. WritesFound answer secret status old new) (sym no) (number, same)))
+        | inl none ↦ inl (inl (subst (λ answer. WritesFound answer secret status old new) (sym none) (number, same)))
         | inr other ↦ elim other [
           | inl none ↦ inl (inr (none.0, number ∙ ap number_of none.1, same))
-          | inr stopped ↦ inr (stopped.0, stopped.1.0, inl (number ∙ ap number_of stopped.1.1, same))
+          | inr stopped ↦ inr (stopped.0, stopped.1, inl (number ∙ ap number_of stopped.2, same))
         ]
       ]
 
 -- a search that never stops
-pub writes_best : (expected : Result (List Hop) Fault) (secret : List ℕ) (status : ℕ) (old : Buffers) (new : Buffers)
-    → WritesSoFar expected ⊥ (λ hops. ⊥) secret status old new → WritesRoute expected secret status old new
-writes_best expected secret status old new wrote =
+pub writes_best : (expected : Result (List Hop) Fault) (asked : Result (List Hop) Fault) (stops : Type 0)
+    (is_route : List Hop → Type 0) (secret : List ℕ) (status : ℕ) (old : Buffers) (new : Buffers)
+    → (stops → ⊥) → expected ≡ asked
+    → WritesSoFar expected stops is_route secret status old new → WritesRoute asked secret status old new
+writes_best expected asked stops is_route secret status old new never is wrote =
     elim wrote [
-      | inl written ↦ written
-      | inr stopped ↦ absurd stopped.1.0
+      | inl written ↦ subst (λ answer. WritesRoute answer secret status old new) is written
+      | inr stopped ↦ absurd (never stopped.1)
     ]

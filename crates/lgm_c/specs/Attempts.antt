@@ -4,7 +4,7 @@ use Rattle.std.specs.Prelude.{Result, Ok, Err}
 use Rattle.lgm_wire.specs.declared.point.Point.{Point}
 use Rattle.lgm_store.specs.Rows.{Rows}
 use Rattle.lgm_graph.specs.Edges.{PointEdge}
-use Rattle.lgm_graph.specs.Overlay.{OverlayParts, extra_edge, overlaid_edges}
+use Rattle.lgm_graph.specs.Overlay.{OverlayParts, extra_edge, no_overlay, overlaid_edges}
 use Rattle.lgm_graph.specs.declared.overlay.ExtraEdge.{ExtraEdge}
 use Rattle.lgm_graph.specs.declared.overlay.Limit.{Limit}
 use Rattle.lgm_graph.specs.declared.route.Hop.{Hop}
@@ -108,6 +108,10 @@ attempt_given payment overlay known search = record {
   budget = budget_given search;
 }
 
+-- a payment over the map alone
+abbrev pub plain_attempt : LgmPayment → AttemptParts
+plain_attempt payment = attempt_given payment no_overlay [] plain_search
+
 -- a payer that prefers nothing and believes nothing of any edge
 pub record PrefersNothing (attempt : AttemptParts) : Type 0 where
   pub preferences : attempt.preferences ≡ no_preferences
@@ -143,11 +147,14 @@ IsRouteFor attempt known rows hops = IsSomeRoute attempt.limits (edges_for attem
 
 -- the route was written with its payloads, or its fault was returned. Or the search stopped: then the best route so far was
 -- written, or there was none
+abbrev pub WritesTried : AttemptParts → Option (List ℕ) → Rows → List ℕ → ℕ → Buffers → Buffers → Type 0
+WritesTried attempt known rows =
+    WritesSoFar (route_over attempt known rows) (MayStop attempt known rows) (IsRouteFor attempt known rows)
+
+-- so it was in the map of a handle
 abbrev pub WritesAttempt : AttemptParts → Option MapState → List ℕ → ℕ → Buffers → Buffers → Type 0
 WritesAttempt attempt None secret status old new = (status ≡ number_of faults.Closed) × (new ≡ old)
-WritesAttempt attempt (Some state) secret status old new =
-    WritesSoFar (route_over attempt state.known state.rows) (MayStop attempt state.known state.rows)
-    (IsRouteFor attempt state.known state.rows) secret status old new
+WritesAttempt attempt (Some state) secret status old new = WritesTried attempt state.known state.rows secret status old new
 
 -- what a closed handle of estimates has: nothing is known of any edge
 abbrev pub entries_of : Option Entries → Entries

@@ -1,8 +1,7 @@
 //! What a payer knows beside the map and prefers, as C says it, and payments over it within limits.
 
 ghost use Rattle.std.specs.Prelude.{◌≡◌, [], map, length, IfOk};
-ghost use Rattle.lgm_graph.specs.Overlay.{no_overlay};
-ghost use Rattle.lgm_c.specs.Attempts.{extra_given, limit_given, point_given, overlay_given, attempt_given};
+ghost use Rattle.lgm_c.specs.Attempts.{extra_given, limit_given, point_given, overlay_given, attempt_given, plain_attempt};
 ghost use Rattle.lgm_c.specs.Attempts.{preferences_given, limits_given, budget_given, plain_search};
 
 use crate::routes::{LgmPayment, request_of};
@@ -14,6 +13,12 @@ use std::marker::Model;
 
 /// The most edges beside the map's of one call, so that a view numbers their nodes behind those of any map.
 pub(crate) const MOST_EDGES: usize = 100_000;
+
+/// The most steps of a search for which none are given: some 0.2 seconds.
+pub(crate) const MOST_STEPS: u64 = 20_000_000;
+
+/// The most labels of such a search: some 50 MB.
+pub(crate) const MOST_LABELS: usize = 1_000_000;
 
 /// An edge beside the map's: a channel of the payer's, or a hint of an invoice (BOLT 11, `r`).
 #[repr(C)]
@@ -113,8 +118,8 @@ impl LgmSearch {
         ensures { result ≡ budget_given self.now }
     {
         SearchBudget {
-            most_labels: if self.most_labels == 0 { 1_000_000 } else { self.most_labels },
-            most_steps: if self.most_steps == 0 { 20_000_000 } else { self.most_steps },
+            most_labels: if self.most_labels == 0 { MOST_LABELS } else { self.most_labels },
+            most_steps: if self.most_steps == 0 { MOST_STEPS } else { self.most_steps },
         }
     }
 }
@@ -210,7 +215,7 @@ impl<'a> Attempt<'a> {
     /// A payment over the map alone, of a payer that knows nothing and prefers nothing.
     pub(crate) fn plain(payment: &LgmPayment, nothing: &'a Estimates) -> Attempt<'a>
         requires { nothing.now ≡ [] }
-        ensures { result ≡ attempt_given payment.now no_overlay [] plain_search }
+        ensures { result ≡ plain_attempt payment.now }
     {
         Attempt::of(payment, &[], &[], &[], nothing, &LgmSearch::plain())
     }

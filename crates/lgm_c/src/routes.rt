@@ -1,12 +1,12 @@
 //! Routes of payments.
 
-ghost use Rattle.std.specs.Prelude.{◌≡◌, ⊥, ℕ, List, Result, IfOk};
+ghost use Rattle.std.specs.Prelude.{◌≡◌, ℕ, List, Option, IfOk};
+ghost use Rattle.lgm_store.specs.Rows.{Rows};
 ghost use Rattle.lgm_c.specs.Routing.{request_of, route_asked, c_hop, c_hops, all_payloads};
-ghost use Rattle.lgm_c.specs.Routing.{AreWritten, WritesHops, WritesRoute, WritesSoFar, buffers, number_written, status_as};
-ghost use Rattle.lgm_c.specs.Attempts.{overlay_given, attempt_given, entries_of, WritesAttempt};
-ghost use Rattle.lgm_c.specs.inner.Searching.{GivesRoute};
-ghost use Rattle.lgm_c.specs.declared.fault.Fault.{Fault as AFault};
-ghost use Rattle.lgm_graph.specs.declared.route.Hop.{Hop as AHop};
+ghost use Rattle.lgm_c.specs.Routing.{AreWritten, WritesHops, WritesRoute, buffers, number_written, status_as};
+ghost use Rattle.lgm_c.specs.Attempts.{AttemptParts, overlay_given, attempt_given, entries_of};
+ghost use Rattle.lgm_c.specs.Attempts.{WritesAttempt, WritesTried};
+ghost use Rattle.lgm_c.specs.inner.Searching.{IsRouted};
 ghost use Rattle.lgm_c.specs.Status.{if_open};
 
 use crate::attempt::{Attempt, LgmEdge, LgmLimit, LgmPoint, LgmSearch};
@@ -178,9 +178,8 @@ fn write_found(
     payloads: &mut [u8],
     lengths: &mut LgmLengths,
 ) -> u32
-    ensures { (expected : Result (List AHop) AFault) (stops : Type 0) (is_route : List AHop → Type 0)
-        → GivesRoute expected stops is_route found.now
-        → WritesSoFar expected stops is_route secret.now result
+    ensures { (attempt : AttemptParts) (known : Option (List ℕ)) (rows : Rows) → IsRouted attempt known rows found.now
+        → WritesTried attempt known rows secret.now result
         (buffers hops.old payloads.old lengths.old)
         (buffers hops.new payloads.new lengths.new) }
 {
@@ -193,15 +192,45 @@ fn write_found(
     }
 }
 
-/// The best route of a payment over the map alone: its search never stops before it is found.
-fn route(alloc: Global, state: &mut ChainMap, payment: &LgmPayment) -> Result<Found, Fault>
+/// Writes the best route for an attempt, or the best so far if the search stops.
+fn write_tried(
+    alloc: Global,
+    state: &mut ChainMap,
+    attempt: &Attempt<'_>,
+    secret: &[u8; 32],
+    hops: &mut [LgmHop],
+    payloads: &mut [u8],
+    lengths: &mut LgmLengths,
+) -> u32
     ensures same { state.new ≡ state.old }
-    ensures route { GivesRoute (route_asked payment.now state.old.known state.old.rows) ⊥ (λ hops. ⊥) result }
+    ensures route { WritesTried attempt.now state.old.known state.old.rows secret.now result
+        (buffers hops.old payloads.old lengths.old)
+        (buffers hops.new payloads.new lengths.new) }
+{
+    let found = state.route(alloc, attempt);
+    write_found(alloc, &found, secret, hops, payloads, lengths)
+}
+
+/// Writes the best route of a payment over the map alone: its search never stops before it is found.
+fn write_plain(
+    alloc: Global,
+    state: &mut ChainMap,
+    payment: &LgmPayment,
+    hops: &mut [LgmHop],
+    payloads: &mut [u8],
+    lengths: &mut LgmLengths,
+) -> u32
+    ensures same { state.new ≡ state.old }
+    ensures route { WritesRoute (route_asked payment.now state.old.known state.old.rows) payment.now.secret result
+        (buffers hops.old payloads.old lengths.old)
+        (buffers hops.new payloads.new lengths.new) }
 {
     overlays_are_lawful();
     nothing_preferred();
     state.map().rows_are_lawful();
-    state.route(alloc, &Attempt::plain(payment, &Estimates::new(alloc)))
+    let nothing = Estimates::new(alloc);
+    let attempt = Attempt::plain(payment, &nothing);
+    write_tried(alloc, state, &attempt, &payment.secret, hops, payloads, lengths)
 }
 
 /// The route of a payment by which the payer sends the least: its hops, from the payer on, and their payloads one after
@@ -221,13 +250,14 @@ pub extern "C" fn lgm_route(
         (buffers hops.old payloads.old lengths.old)
         (buffers hops.new payloads.new lengths.new) }
 {
-    with_state!(alloc, map, |state| {
-        let found = route(alloc, &mut state, payment);
-        write_found(alloc, &found, &payment.secret, hops, payloads, lengths)
-    })
+    with_state!(
+        alloc,
+        map,
+        |state| write_plain(alloc, &mut state, payment, hops, payloads, lengths)
+    )
 }
 
-/// Writes the best route for an attempt, or the best so far if the search stops.
+/// The same in the map of a handle.
 fn write_attempt(
     alloc: Global,
     map: &mut LgmMap,
@@ -242,10 +272,11 @@ fn write_attempt(
         (buffers hops.old payloads.old lengths.old)
         (buffers hops.new payloads.new lengths.new) }
 {
-    with_state!(alloc, map, |state| {
-        let found = state.route(alloc, attempt);
-        write_found(alloc, &found, secret, hops, payloads, lengths)
-    })
+    with_state!(
+        alloc,
+        map,
+        |state| write_tried(alloc, &mut state, attempt, secret, hops, payloads, lengths)
+    )
 }
 
 /// The best route of a payment by what its payer prefers and has learnt of edges, over edges beside the map's, limits of what
