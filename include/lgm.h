@@ -72,6 +72,7 @@ enum {
     LGM_EXPIRY_TOO_LARGE = 23,
     LGM_SELF_PAYMENT = 24,
     LGM_NO_ROUTE = 25,
+
     /* Labels or steps ran out, and no route was found so far: it says nothing about the payment. */
     LGM_UNDECIDED = 26,
     /* A route was written that is usable and within the limits, but may not be the best one: labels or steps ran out. */
@@ -382,11 +383,12 @@ typedef struct {
  * A search ends before it is certain once it has made `most_labels` labels, or taken `most_steps` steps. Then it writes the
  * best route so far, and returns LGM_SO_FAR, or returns LGM_UNDECIDED if it found none. LGM_NO_ROUTE never comes for want of
  * either. Without preferences and estimates the two come only if the route that sends least of all isn't within the limits of
- * delay and hops. More of both helps, or to exclude edges with large deltas by limits of 0.
+ * delay and hops: that one is found whatever it takes. With them, and within such limits, up to two searches are made, each
+ * with all labels and steps. More of these help, or to exclude edges with large deltas by limits of 0.
  *
  * The map, what is known of edges, and all else that is passed are unchanged. While the call runs, it alone uses the handle
- * of the estimates. Everything may be left out, by lengths of 0, a closed handle and zeros: it then does what lgm_route does,
- * and costs the same.
+ * of the estimates. All but the payment may be left out, by lengths of 0, a closed handle and zeros: it then does what
+ * lgm_route does, and costs the same.
  *
  * LGM_CLOSED, of `map`; LGM_ARGUMENT, for more than LGM_MOST_EDGES edges; LGM_FULL; 21 to 24; LGM_NO_MEMORY; 25 to 27;
  * LGM_ROOM, in place of LGM_SO_FAR too.
