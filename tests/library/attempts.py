@@ -164,7 +164,7 @@ def small_budgets():
     one_step = search(failure_msat=5, most_steps=1)
     assert answer_of_both(handles, C, edges=TWO_HINTS, asked=one_step) == (27, *OVER_7[1:])
     assert answer_of_both(handles, C, edges=TWO_HINTS, asked=one_step, hops_len=1) == (104, 2, 0, 0, 0)
-    for most_labels, most_steps in ((1_000_000, 20_000_000), (2**64 - 1, 2**64 - 1)):
+    for most_labels, most_steps in ((1_000, 100_000), (2**64 - 1, 2**64 - 1)):
         many = search(failure_msat=5, most_labels=most_labels, most_steps=most_steps)
         assert answer_of_both(handles, C, edges=TWO_HINTS, asked=many) == OVER_7
     number, _, lengths, payloads = route_over(handles[0], C, edges=TWO_HINTS, asked=one_step)
