@@ -535,7 +535,8 @@ def wide_edges(sides, stages, lgm):
 
 
 def test_undecided():
-    """Where labels or steps don't suffice, the payment is undecided within a delay that all cheap routes exceed, and only there."""
+    """Where labels or steps don't suffice, the payment is undecided within a delay that all cheap routes exceed, and only
+    there."""
     import lgm
 
     payer, payee, edges = wide_edges(6_000, 8, lgm)
