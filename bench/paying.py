@@ -144,7 +144,7 @@ def halve(network, estimates):
         if KEPT * least < capacity and KEPT * (capacity - most) < capacity:
             estimates.forget(scid, start)
         else:
-            estimates.set(scid, start, least, most)
+            estimates.set(scid, start, lgm.Estimate(least, most))
 
 
 def paid(world, ends, amount, way, estimates):

@@ -165,8 +165,8 @@ def random_payment(numbers):
 
 
 def random_delays(numbers, steps):
-    """Limits of the delay: any, and one block less than these steps have, if they have any."""
-    just_below = [delay(steps) - 1] if steps and delay(steps) else []
+    """Limits of the delay: any, and one block less than these steps have, if they have more than one."""
+    just_below = [delay(steps) - 1] if steps and delay(steps) > 1 else []
     return [numbers.choice((1, 40, 80, 144, 184, 300)), *just_below]
 
 

@@ -130,7 +130,7 @@ def network_of(roads):
 def believe(estimates, edge, known):
     """Sets the library's estimate of an edge, by its block and node."""
     block, start = edge
-    estimates.set(scid(block), point(start), known.least, known.most, known.penalty)
+    estimates.set(scid(block), point(start), lgm.Estimate(*known))
 
 
 def asked(case, network, **budget):
