@@ -80,6 +80,12 @@ def test_plain_overlays(out):
     report("plain overlays", subprocess.run(words, check=False).returncode == 0)
 
 
+def test_plain_preferred(out):
+    """Payments by what a payer prefers have the routes that a plain program finds."""
+    words = [sys.executable, TOP / "tests" / "plain_preferred.py", out / "liblgm.so"]
+    report("plain preferred", subprocess.run(words, check=False).returncode == 0)
+
+
 def test_installed(prefix, folder):
     """A program is built by what lgm.pc says, and runs with the shared object of the header's version."""
     version = re.search(r"#define LGM_VERSION (\d+)", (TOP / "include" / "lgm.h").read_text())[1]
@@ -458,8 +464,8 @@ def edges_in(network, lgm):
 def quicker_is_right(network, payment, route, lgm):
     """Whether the delay of a route is within the limit, and without it what is found is quicker and no cheaper."""
     delay = route.expiry - payment[3]
-    right = routed(network, payment, lgm, most_delay=delay) == route
-    quicker = routed(network, payment, lgm, most_delay=delay - 1) if delay > 0 else "no-route"
+    right = routed(network, payment, lgm, most_delay=max(delay, 1)) == route
+    quicker = routed(network, payment, lgm, most_delay=delay - 1) if delay > 1 else "no-route"
     return right and (quicker == "no-route" or quicker.expiry - payment[3] < delay and quicker.sent_msat >= route.sent_msat)
 
 
@@ -529,7 +535,8 @@ def wide_edges(sides, stages, lgm):
 
 
 def test_undecided():
-    """Where labels don't suffice, the payment is undecided within a delay that all cheap routes exceed, and only there."""
+    """Where labels or steps don't suffice, the payment is undecided within a delay that all cheap routes exceed, and only
+    there."""
     import lgm
 
     payer, payee, edges = wide_edges(6_000, 8, lgm)
@@ -615,6 +622,7 @@ def main():
         test_exports(out)
         test_calls(out)
         test_plain_overlays(out)
+        test_plain_preferred(out)
         test_installed(prefix, out)
         test_c(out)
         test_faults(out)

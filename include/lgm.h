@@ -41,8 +41,9 @@ extern "C" {
 #endif
 
 /*
- * What a call returns: LGM_OK, or the number of the first fault. After a fault the map is unchanged, or what is known of
- * edges, and so are the buffers, except for the lengths that are written with LGM_ROOM, and the node of lgm_node.
+ * What a call returns: LGM_OK, LGM_SO_FAR, or the number of the first fault. After a fault the map is unchanged, or what is
+ * known of edges, and so are the buffers, except for the lengths that are written with LGM_ROOM, and the node of lgm_node.
+ * LGM_SO_FAR is no fault: the buffers are written as with LGM_OK.
  */
 enum {
     LGM_OK = 0,
@@ -71,8 +72,11 @@ enum {
     LGM_EXPIRY_TOO_LARGE = 23,
     LGM_SELF_PAYMENT = 24,
     LGM_NO_ROUTE = 25,
-    /* A route within a delay wasn't found by as many labels as a search makes: it says nothing about the payment. */
+
+    /* Labels or steps ran out, and no route was found so far: it says nothing about the payment. */
     LGM_UNDECIDED = 26,
+    /* A route was written that is usable and within the limits, but may not be the best one: labels or steps ran out. */
+    LGM_SO_FAR = 27,
 
     /* The message is neither a 261 nor a 263; it isn't a 265. */
     LGM_NOT_QUERY = 31,
@@ -112,7 +116,7 @@ typedef struct {
 } lgm_map;
 
 /* The version of this header. */
-#define LGM_VERSION 2
+#define LGM_VERSION 3
 
 /* The version of the library, to be compared with LGM_VERSION. */
 uint32_t lgm_version(void);
@@ -345,37 +349,54 @@ typedef struct {
     uint8_t point[33];
 } lgm_point;
 
-/* The delay of a route that may have any, also one above 65,535 blocks. */
-#define LGM_ANY_DELAY 65535
-
 /* The most edges of a call. */
 #define LGM_MOST_EDGES 100000
 
-/* The most labels that a search within a delay makes, of 45 bytes each: up to some 47 MB, which are given back. */
+/* The most steps and labels of a search, if the call doesn't say. */
+#define LGM_MOST_STEPS 20000000
 #define LGM_MOST_LABELS 1000000
 
 /*
- * Finds the route of a payment as lgm_route does, over what the payer knows beside the map (docs/protocol.md, "What a payer
- * knows beside the map"), in a map that changes or a published one:
+ * What a payer prefers, and limits of its route and of the search for it. All zeros prefer nothing, and limit nothing but
+ * the search.
+ */
+typedef struct {
+    uint64_t most_steps;   /* the most steps: edges looked at, and labels compared; 0 stands for LGM_MOST_STEPS */
+    size_t most_labels;    /* the most labels, of some 50 bytes each; 0 stands for LGM_MOST_LABELS */
+    uint32_t failure_msat; /* what a failed try is worth to the payer */
+    uint32_t hop_msat;     /* what each hop is */
+    uint16_t most_delay;   /* the most delay in blocks, of all channels but the first; 0 stands for any */
+    uint8_t most_hops;     /* the most channels, up to 20; 0 stands for 20 */
+} lgm_search;
+
+/*
+ * Finds the best route of a payment by what its payer prefers (docs/protocol.md, "A route that arrives"), over what the payer
+ * knows beside the map ("What a payer knows beside the map"), in a map that changes or a published one:
  *
  *   - each of the edges stands in place of the map's with its id out of its node; of such edges the first counts;
  *   - the least limit of an edge counts;
- *   - no edge of the map that leaves a silent node is used. The node may be paid, and edges of this call may leave it.
+ *   - no edge of the map that leaves a silent node is used. The node may be paid, and edges of this call may leave it;
+ *   - what is believed of edges counts as `estimates` has it. Of a closed handle nothing is known;
+ *   - the expiry over the first hop is above that of the payment by at most `most_delay` blocks, and the route has at most
+ *     `most_hops` hops ("A route within a delay"). LGM_NO_ROUTE then says that no usable route is within both.
  *
- * The expiry over the first hop is above that of the payment by at most `most_delay` blocks, if that isn't LGM_ANY_DELAY
- * (docs/protocol.md, "A route within a delay"). LGM_NO_ROUTE then says that no route is within it. LGM_UNDECIDED says that
- * the best route of all is beyond it, and that LGM_MOST_LABELS labels didn't suffice to find the best one within it: to
- * exclude edges with large deltas by limits of 0 helps.
+ * A search ends before it is certain once it has made `most_labels` labels, or taken `most_steps` steps. Then it writes the
+ * best route so far, and returns LGM_SO_FAR, or returns LGM_UNDECIDED if it found none. LGM_NO_ROUTE never comes for want of
+ * either. Without preferences and estimates the two come only if the route that sends least of all isn't within the limits of
+ * delay and hops: that one is found whatever it takes. With them, and within such limits, up to two searches are made, each
+ * with all labels and steps. More of these help, or to exclude edges with large deltas by limits of 0.
  *
- * The map is unchanged, and so is what is passed. Without edges, limits and silent nodes, and with LGM_ANY_DELAY, it does
- * what lgm_route does, and costs the same.
+ * The map, what is known of edges, and all else that is passed are unchanged. While the call runs, it alone uses the handle
+ * of the estimates. All but the payment may be left out, by lengths of 0, a closed handle and zeros: it then does what
+ * lgm_route does, and costs the same.
  *
- * LGM_CLOSED; LGM_ARGUMENT, for more than LGM_MOST_EDGES edges; LGM_FULL; 21 to 26; LGM_ROOM; LGM_NO_MEMORY.
+ * LGM_CLOSED, of `map`; LGM_ARGUMENT, for more than LGM_MOST_EDGES edges; LGM_FULL; 21 to 24; LGM_NO_MEMORY; 25 to 27;
+ * LGM_ROOM, in place of LGM_SO_FAR too.
  */
 uint32_t lgm_route_over(lgm_map *map, const lgm_payment *payment, const lgm_edge *edges, size_t edges_len,
                         const lgm_limit *limits, size_t limits_len, const lgm_point *silent, size_t silent_len,
-                        uint16_t most_delay, lgm_hop *hops, size_t hops_len, uint8_t *payloads, size_t payloads_len,
-                        lgm_lengths *lengths);
+                        lgm_estimates *estimates, const lgm_search *search, lgm_hop *hops, size_t hops_len,
+                        uint8_t *payloads, size_t payloads_len, lgm_lengths *lengths);
 
 /*
  * Answers a peer's query_short_channel_ids (261) or query_channel_range (263) (BOLT 7, "Query Messages"). Writes the

@@ -8,7 +8,8 @@ LIBRARY is `liblgm.so`. Compared are
 - the functions that the header declares, that the library exports (`nm`), and that the sources define, with the types of
   their parameters and results;
 - the structs: their fields, in order, with types; and their sizes and offsets as the C compiler lays them out;
-- the numbers of faults and verdicts, the version, the size of a word, and the limits of a search.
+- the numbers of faults and verdicts, that of a route that may not be the best one, the version, the size of a word, and the
+  limits of a search.
 
 Prints a line for each difference; the exit status is then 1.
 """
@@ -25,7 +26,7 @@ SOURCES = TOP / "crates" / "lgm_c" / "src"
 # The names of structs in C, and of types in C and in ctypes.
 STRUCTS = {"LgmMap": "lgm_map", "LgmPayment": "lgm_payment", "LgmHop": "lgm_hop", "LgmLengths": "lgm_lengths",
            "LgmEstimates": "lgm_estimates", "LgmEstimate": "lgm_estimate_info",
-           "LgmEdge": "lgm_edge", "LgmLimit": "lgm_limit", "LgmPoint": "lgm_point",
+           "LgmEdge": "lgm_edge", "LgmLimit": "lgm_limit", "LgmPoint": "lgm_point", "LgmSearch": "lgm_search",
            "LgmDirection": "lgm_direction", "LgmChannel": "lgm_channel_info", "LgmNode": "lgm_node_info"}
 TYPES = {"bool": ("bool", ctypes.c_bool), "u8": ("uint8_t", ctypes.c_uint8), "u16": ("uint16_t", ctypes.c_uint16),
          "u32": ("uint32_t", ctypes.c_uint32), "u64": ("uint64_t", ctypes.c_uint64), "usize": ("size_t", ctypes.c_size_t),
@@ -112,7 +113,7 @@ def source_structs(text):
 
 
 def source_constants(text):
-    """The numbers of faults and verdicts, the version, the size of a word and the limits of a search."""
+    """The numbers of faults and verdicts, the version, the size of a word, the limits of a search, and other constants."""
     def upper(name):
         return re.sub(r"(?<!^)([A-Z])", r"_\1", name).upper()
 

@@ -165,9 +165,9 @@ def random_payment(numbers):
 
 
 def random_delays(numbers, steps):
-    """Limits of the delay: any, and one block less than these steps have, if they have any."""
-    just_below = [delay(steps) - 1] if steps and delay(steps) else []
-    return [numbers.choice((0, 40, 80, 144, 184, 300)), *just_below]
+    """Limits of the delay: any, and one block less than these steps have, if they have more than one."""
+    just_below = [delay(steps) - 1] if steps and delay(steps) > 1 else []
+    return [numbers.choice((1, 40, 80, 144, 184, 300)), *just_below]
 
 
 def scid(block):
@@ -222,7 +222,7 @@ def answer(network, payment, overlay, most_delay):
     silent = [point(node) for node in overlay.silent]
     try:
         return steps_in(network.route(point(payment.payer), point(payment.payee), payment.amount, EXPIRY, SECRET,
-                                      edges, limits, silent, most_delay))
+                                      edges, limits, silent, most_delay=most_delay))
     except lgm.NoRoute:
         return []
     except lgm.Fault as fault:

@@ -1,9 +1,10 @@
-"""A plain program for routes, which tries all walks (docs/protocol.md, "Routes" and "A route within a delay").
+"""A plain program for routes, which tries all walks (docs/protocol.md, "Routes" and the two sections behind it).
 
     roads = [Road(7, 0, 1), Road(8, 1, 2, Terms(base=5, delta=10))]
     routes = usable(roads, Payment(0, 2, 1_000))
     steps = best(routes)                # Step(7, 0, 1, 1005, 700_010), Step(8, 1, 2, 1000, 700_000)
     quick = best(routes, most_delay=9)  # none
+    liked = preferred(roads, Payment(0, 2, 1_000), Preferences(failure=20_000), {(8, 1): Estimate(least=1_000)})
 
 Nodes are numbers, and so are channels: the block of an id BLOCKx0x0. No two roads of one id leave one node.
 """
@@ -17,6 +18,9 @@ sys.path.insert(0, str(Path(__file__).resolve().parent.parent))
 from gossip.notation import TERMS
 
 MOST_CHANNELS = 20
+MOST_AMOUNT = 2**64 - 1  # msat, that a number of eight bytes has
+MOST_PENALTY = 2**40  # msat, of one edge
+MOST_ODDS = 100  # to 1
 EXPIRY = 700_000  # of each payment
 
 
@@ -109,3 +113,53 @@ def delay(steps):
 def best(routes, most_delay=None):
     """The best of some routes, or of those within a delay; no steps if there is none."""
     return min((steps for steps in routes if most_delay is None or delay(steps) <= most_delay), key=rank, default=[])
+
+
+class Preferences(NamedTuple):
+    """What a failed try and each hop are worth to a payer, in msat."""
+
+    failure: int = 0
+    hop: int = 0
+
+
+class Estimate(NamedTuple):
+    """What a payer believes of an edge: that it carries so much, that it carries no more, what it would pay to avoid it."""
+
+    least: int = 0
+    most: int = MOST_AMOUNT
+    penalty: int = 0
+
+    def carried(self, amount):
+        """What it believes once the edge has carried an amount."""
+        return self._replace(least=max(self.least, amount), most=max(self.most, amount))
+
+    def failed(self, amount):
+        """What it believes once the edge has failed to carry an amount."""
+        below = max(amount - 1, 0)
+        return self._replace(least=min(self.least, below), most=min(self.most, below))
+
+
+def penalty(road, amount, preferences, estimate):
+    """What it is worth to a payer that a road doesn't carry an amount."""
+    most = min(road.terms.most, estimate.most)
+    odds = preferences.failure * max(amount - estimate.least, 0) // (max(most - amount, 0) + 1)
+    return min(MOST_PENALTY, preferences.hop + estimate.penalty + min(MOST_ODDS * preferences.failure, odds))
+
+
+def cost(walk, steps, preferences, estimates):
+    """What the payer sends over a walk, and the penalties of its roads but the first. Estimates are by block and node."""
+    known = [estimates.get((road.block, road.start), Estimate()) for road in walk]
+    return steps[0].amount + sum(penalty(road, step.amount, preferences, estimate)
+                                 for road, step, estimate in list(zip(walk, steps, known))[1:])
+
+
+def preferred(roads, payment, preferences, estimates, most_delay=None, most_hops=MOST_CHANNELS):
+    """The steps that cost a payer least, of those within a delay and a number of hops; none if there are none. The number of
+    steps decides between equals, and then the ids from the payer on."""
+    ranked = []
+    for walk in walks(roads, payment):
+        steps = steps_of(walk, payment)
+        if steps and len(steps) <= most_hops and (most_delay is None or delay(steps) <= most_delay):
+            _, *ties = rank(steps)
+            ranked.append((cost(walk, steps, preferences, estimates), *ties, steps))
+    return min(ranked)[-1] if ranked else []

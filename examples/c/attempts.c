@@ -1,7 +1,7 @@
 /*
- * Tests payments over what the payer knows beside the map, lgm_route_over, in a map that changes and in a published one, also
- * if an allocation fails: each one in turn. The exit status is 0 if all tests pass. Under valgrind it also shows that nothing
- * is freed twice, read or written past its end, or leaked.
+ * Tests payments over what the payer knows beside the map, and by what it prefers and has learnt, lgm_route_over, in a map
+ * that changes and in a published one, also if an allocation fails: each one in turn. The exit status is 0 if all tests pass.
+ * Under valgrind it also shows that nothing is freed twice, read or written past its end, or leaked.
  *
  * It is linked with -Wl,--wrap=malloc,--wrap=realloc, so that it can make allocations fail.
  */
@@ -16,7 +16,8 @@ typedef struct {
     lgm_limit limits[3];
     lgm_point silent[3];
     size_t edges_len, limits_len, silent_len;
-    uint16_t most_delay;
+    lgm_estimates estimates; /* closed, unless a test opens it */
+    lgm_search search;
     lgm_hop hops[LGM_MOST_HOPS];
     uint8_t payloads[LGM_MOST_PAYLOADS];
     lgm_lengths lengths;
@@ -26,7 +27,6 @@ static void begin(attempt *it, const uint8_t *payee) {
     memset(it, 0, sizeof *it);
     it->payment.amount_msat = 1000;
     it->payment.expiry = 700000;
-    it->most_delay = LGM_ANY_DELAY;
     memcpy(it->payment.payer, a, 33);
     memcpy(it->payment.payee, payee, 33);
 }
@@ -55,8 +55,8 @@ static void add_silent(attempt *it, const uint8_t *node) {
 
 static uint32_t route_over(lgm_map *map, attempt *it) {
     return lgm_route_over(map, &it->payment, it->edges, it->edges_len, it->limits, it->limits_len, it->silent,
-                          it->silent_len, it->most_delay, it->hops, LGM_MOST_HOPS, it->payloads, sizeof it->payloads,
-                          &it->lengths);
+                          it->silent_len, &it->estimates, &it->search, it->hops, LGM_MOST_HOPS, it->payloads,
+                          sizeof it->payloads, &it->lengths);
 }
 
 static void expect_hop(const char *what, const attempt *it, size_t place, uint64_t id, uint64_t amount, uint32_t expiry) {
@@ -78,7 +78,8 @@ static void nothing(lgm_map *map) {
     expect("the same lengths", memcmp(&plain.lengths, &over.lengths, sizeof plain.lengths), 0);
     expect("the same payloads", memcmp(plain.payloads, over.payloads, sizeof plain.payloads), 0);
     expect_hop("the same hop", &over, 0, plain.hops[0].scid, plain.hops[0].amount_msat, plain.hops[0].expiry);
-    over.most_delay = 0;
+    over.search.most_delay = 1;
+    over.search.most_hops = 1;
     AGAIN("a route without delay", route_over(map, &over), LGM_OK);
     expect_hop("its hop", &over, 0, scid, 1000, 700000);
     begin(&over, c);
@@ -143,15 +144,15 @@ static void hints(lgm_map *map) {
     expect_hop("the hint's hop", &it, 1, 6, 1000, 700000);
     expect("two hops", it.lengths.hops, 2);
     expect("their payloads", it.lengths.payloads, it.hops[0].payload_len + it.hops[1].payload_len);
-    it.most_delay = 30;
+    it.search.most_delay = 30;
     AGAIN("a hint in time", route_over(map, &it), LGM_OK);
-    it.most_delay = 29;
+    it.search.most_delay = 29;
     AGAIN("a hint that is too slow", route_over(map, &it), LGM_NO_ROUTE);
     add_edge(&it, 7, a, d, 0, 0, UINT64_MAX);
     add_edge(&it, 8, d, c, 50, 10, UINT64_MAX);
     AGAIN("a quicker one", route_over(map, &it), LGM_OK);
     expect_hop("the payer's hop", &it, 0, 7, 1050, 700010);
-    it.most_delay = 9;
+    it.search.most_delay = 9;
     AGAIN("none in time", route_over(map, &it), LGM_NO_ROUTE);
 }
 
@@ -163,8 +164,116 @@ static void long_delays(lgm_map *map) {
     add_edge(&it, 7, c, d, 0, 40000, UINT64_MAX);
     AGAIN("80,000 blocks", route_over(map, &it), LGM_OK);
     expect_hop("its first hop", &it, 0, scid, 1000, 780000);
-    it.most_delay = LGM_ANY_DELAY - 1;
-    AGAIN("65,534 blocks", route_over(map, &it), LGM_NO_ROUTE);
+    it.search.most_delay = UINT16_MAX;
+    AGAIN("65,535 blocks", route_over(map, &it), LGM_NO_ROUTE);
+}
+
+/* Two hints from B to C: 6 for 5 msat, which carries so little more than 1000 that its odds are 1 to 1, and 7 for 9 msat. */
+static void add_two_hints(attempt *it) {
+    add_edge(it, 6, b, c, 5, 30, 1999);
+    add_edge(it, 7, b, c, 9, 10, UINT64_MAX);
+}
+
+/* Expects a route over one of these hints, and what is sent. */
+static void expect_hint(const char *what, const attempt *it, uint64_t id, uint64_t sent) {
+    expect("two hops", it->lengths.hops, 2);
+    expect_hop(what, it, 0, scid, sent, id == 6 ? 700030 : 700010);
+    expect_hop(what, it, 1, id, 1000, 700000);
+}
+
+/* A try over 6 that is worth 4 msat makes it as dear as 7, and then the lesser id decides. */
+static void preferences(lgm_map *map) {
+    attempt it;
+    begin(&it, c);
+    add_two_hints(&it);
+    AGAIN("no preferences", route_over(map, &it), LGM_OK);
+    expect_hint("the one that sends least", &it, 6, 1005);
+    it.search.failure_msat = 4;
+    AGAIN("a failure of 4 msat", route_over(map, &it), LGM_OK);
+    expect_hint("the lesser id", &it, 6, 1005);
+    it.search.failure_msat = 5;
+    AGAIN("a failure of 5 msat", route_over(map, &it), LGM_OK);
+    expect_hint("the one that arrives", &it, 7, 1009);
+    it.search.most_delay = 9;
+    AGAIN("none in time", route_over(map, &it), LGM_NO_ROUTE);
+}
+
+/* From B to C for 50 msat, or over D for nothing. Two hops more are worth 100 msat: then both cost the same. */
+static void few_hops(lgm_map *map) {
+    attempt it;
+    begin(&it, c);
+    add_edge(&it, 6, b, d, 0, 10, UINT64_MAX);
+    add_edge(&it, 7, d, c, 0, 10, UINT64_MAX);
+    add_edge(&it, 8, b, c, 50, 10, UINT64_MAX);
+    it.search.hop_msat = 49;
+    AGAIN("hops of 49 msat", route_over(map, &it), LGM_OK);
+    expect("three hops", it.lengths.hops, 3);
+    expect_hop("the first of three", &it, 0, scid, 1000, 700020);
+    it.search.hop_msat = 50;
+    AGAIN("hops of 50 msat", route_over(map, &it), LGM_OK);
+    expect("two hops", it.lengths.hops, 2);
+    expect_hop("the first of two", &it, 0, scid, 1050, 700010);
+    it.search.hop_msat = 0;
+    it.search.most_hops = 2;
+    AGAIN("at most two hops", route_over(map, &it), LGM_OK);
+    expect_hop("the second of two", &it, 1, 8, 1000, 700000);
+    it.search.most_hops = 1;
+    AGAIN("at most one hop", route_over(map, &it), LGM_NO_ROUTE);
+}
+
+/* One step finds the cheapest way, and isn't enough to be certain. One label is that of the payee. */
+static void budgets(lgm_map *map) {
+    attempt it;
+    begin(&it, c);
+    add_two_hints(&it);
+    it.search = (lgm_search){.most_steps = 1, .most_labels = 1};
+    AGAIN("no budget is needed", route_over(map, &it), LGM_OK);
+    it.search.most_delay = 10;
+    memset(&it.lengths, 0, sizeof it.lengths);
+    AGAIN("one label within a delay", route_over(map, &it), LGM_UNDECIDED);
+    it.search.most_delay = 9;
+    AGAIN("none in time", route_over(map, &it), LGM_NO_ROUTE);
+    it.search = (lgm_search){.failure_msat = 5, .most_labels = 1};
+    AGAIN("one label", route_over(map, &it), LGM_UNDECIDED);
+    expect("nothing is written", it.lengths.hops + it.lengths.payloads, 0);
+    it.search = (lgm_search){.failure_msat = 5, .most_steps = 1};
+    AGAIN("one step", route_over(map, &it), LGM_SO_FAR);
+    expect_hint("the best one so far", &it, 7, 1009);
+    expect("its payloads", it.lengths.payloads, it.hops[0].payload_len + it.hops[1].payload_len);
+    AGAIN("one step, and room for one hop",
+          lgm_route_over(map, &it.payment, it.edges, it.edges_len, NULL, 0, NULL, 0, &it.estimates, &it.search, it.hops, 1,
+                         it.payloads, sizeof it.payloads, &it.lengths), LGM_ROOM);
+    it.search = (lgm_search){.failure_msat = 5, .most_steps = LGM_MOST_STEPS, .most_labels = LGM_MOST_LABELS};
+    AGAIN("many steps and labels", route_over(map, &it), LGM_OK);
+    expect_hint("the best one", &it, 7, 1009);
+}
+
+/* What is learnt of 6 and 7 decides between them, and the call leaves it as it is. */
+static void learnt(lgm_map *map) {
+    lgm_estimate_info info = {.most_msat = UINT64_MAX, .penalty_msat = 996};
+    attempt it;
+    begin(&it, c);
+    add_two_hints(&it);
+    it.search.failure_msat = 1000;
+    AGAIN("estimates", lgm_estimates_open(&it.estimates), LGM_OK);
+    AGAIN("nothing learnt", route_over(map, &it), LGM_OK);
+    expect_hint("the one that arrives", &it, 7, 1009);
+    AGAIN("an edge that carried", lgm_estimates_carried(&it.estimates, 6, b, 1000), LGM_OK);
+    AGAIN("no odds", route_over(map, &it), LGM_OK);
+    expect_hint("the one that carried", &it, 6, 1005);
+    expect("an edge that failed", lgm_estimates_failed(&it.estimates, 6, b, 1000), LGM_OK);
+    AGAIN("odds of 1 to 1", route_over(map, &it), LGM_OK);
+    expect_hint("the other one", &it, 7, 1009);
+    AGAIN("a penalty", lgm_estimates_set(&it.estimates, 7, b, &info), LGM_OK);
+    AGAIN("1005 and 1000 are 1009 and 996", route_over(map, &it), LGM_OK);
+    expect_hint("the lesser id", &it, 6, 1005);
+    expect("what is known", lgm_estimates_count(&it.estimates), 2);
+    expect("what is known of 7", lgm_estimate(&it.estimates, 7, b, &info), LGM_OK);
+    expect("its penalty", info.penalty_msat, 996);
+    lgm_estimates_free(&it.estimates);
+    AGAIN("a closed handle", route_over(map, &it), LGM_OK);
+    expect_hint("the one that arrives", &it, 7, 1009);
+    expect("the handle", it.estimates.is_open, false);
 }
 
 /* Nothing is written where a buffer is too short, nor past the route. */
@@ -173,19 +282,20 @@ static void short_buffers(lgm_map *map) {
         attempt it, before;
         begin(&it, c);
         add_edge(&it, 6, b, c, 5, 30, UINT64_MAX);
+        it.search.most_delay = 30;
         AGAIN("a route", route_over(map, &it), LGM_OK);
         size_t bytes = it.lengths.payloads;
         memset(it.hops, 5, sizeof it.hops);
         memset(it.payloads, 5, sizeof it.payloads);
         before = it;
         AGAIN("some room for hops",
-              lgm_route_over(map, &it.payment, it.edges, 1, NULL, 0, NULL, 0, 30, it.hops, room, it.payloads, bytes,
-                             &it.lengths), room < 2 ? LGM_ROOM : LGM_OK);
+              lgm_route_over(map, &it.payment, it.edges, 1, NULL, 0, NULL, 0, &it.estimates, &it.search, it.hops, room,
+                             it.payloads, bytes, &it.lengths), room < 2 ? LGM_ROOM : LGM_OK);
         expect("the other hops", memcmp(it.hops + 2, before.hops + 2, sizeof it.hops - 2 * sizeof *it.hops), 0);
         expect("the other payloads", memcmp(it.payloads + bytes, before.payloads + bytes, sizeof it.payloads - bytes), 0);
         AGAIN("too little room for payloads",
-              lgm_route_over(map, &it.payment, it.edges, 1, NULL, 0, NULL, 0, 30, before.hops, 2, before.payloads,
-                             bytes - 1, &before.lengths), LGM_ROOM);
+              lgm_route_over(map, &it.payment, it.edges, 1, NULL, 0, NULL, 0, &it.estimates, &it.search, before.hops, 2,
+                             before.payloads, bytes - 1, &before.lengths), LGM_ROOM);
         expect("the lengths", before.lengths.hops == 2 && before.lengths.payloads == bytes, true);
         expect("the room", before.hops[0].scid == 0x0505050505050505 && before.payloads[0] == 5, true);
     }
@@ -199,6 +309,8 @@ static void refused_without_memory(lgm_map *map) {
     add_edge(&it, 6, b, c, 5, 30, UINT64_MAX);
     add_limit(&it, 6, b, 2000);
     add_silent(&it, d);
+    AGAIN("estimates", lgm_estimates_open(&it.estimates), LGM_OK);
+    it.search.failure_msat = 1000;
     it.lengths.hops = 77;
     none_left = true;
     expect("a closed handle", route_over(&closed, &it), LGM_CLOSED);
@@ -217,12 +329,13 @@ static void refused_without_memory(lgm_map *map) {
     expect("no memory", route_over(map, &it), LGM_NO_MEMORY);
     expect("what is passed, and the room", memcmp(&it, &before, sizeof it), 0);
     none_left = false;
+    lgm_estimates_free(&it.estimates);
 }
 
 /* Each of these, while an allocation fails: each one in turn. */
 static void known_beside(lgm_map *map) {
-    static void (*const tests[])(lgm_map *) = {nothing, limits, silent_nodes, own_channels, hints, long_delays,
-                                               short_buffers, refused_without_memory};
+    static void (*const tests[])(lgm_map *) = {nothing, limits, silent_nodes, own_channels, hints, long_delays, preferences,
+                                               few_hops, budgets, learnt, short_buffers, refused_without_memory};
     for (size_t i = 0; i < sizeof tests / sizeof *tests; i++) {
         long requests = 0;
         do {
@@ -272,20 +385,20 @@ static void most_edges(void) {
     memcpy(edges[LGM_MOST_EDGES - 1].from, a, 33);
     for (size_t len = LGM_MOST_EDGES - 1; len <= LGM_MOST_EDGES + 1; len++)
         expect("many edges",
-               lgm_route_over(&map, &it.payment, edges, len, NULL, 0, NULL, 0, LGM_ANY_DELAY, it.hops, LGM_MOST_HOPS,
-                              it.payloads, sizeof it.payloads, &it.lengths),
+               lgm_route_over(&map, &it.payment, edges, len, NULL, 0, NULL, 0, &it.estimates, &it.search, it.hops,
+                              LGM_MOST_HOPS, it.payloads, sizeof it.payloads, &it.lengths),
                len < LGM_MOST_EDGES ? LGM_NO_ROUTE : len > LGM_MOST_EDGES ? LGM_ARGUMENT : LGM_OK);
     expect_hop("the last edge", &it, 0, LGM_MOST_EDGES - 1, 1000, 700000);
     it.payment.amount_msat = 0;
     none_left = true;
     expect("too many, and no amount",
-           lgm_route_over(&map, &it.payment, edges, LGM_MOST_EDGES + 1, NULL, 0, NULL, 0, LGM_ANY_DELAY, it.hops,
-                          LGM_MOST_HOPS, it.payloads, sizeof it.payloads, &it.lengths), LGM_ARGUMENT);
+           lgm_route_over(&map, &it.payment, edges, LGM_MOST_EDGES + 1, NULL, 0, NULL, 0, &it.estimates, &it.search,
+                          it.hops, LGM_MOST_HOPS, it.payloads, sizeof it.payloads, &it.lengths), LGM_ARGUMENT);
     none_left = false;
     lgm_free(&map);
     expect("too many, of a closed handle",
-           lgm_route_over(&map, &it.payment, edges, LGM_MOST_EDGES + 1, NULL, 0, NULL, 0, LGM_ANY_DELAY, it.hops,
-                          LGM_MOST_HOPS, it.payloads, sizeof it.payloads, &it.lengths), LGM_CLOSED);
+           lgm_route_over(&map, &it.payment, edges, LGM_MOST_EDGES + 1, NULL, 0, NULL, 0, &it.estimates, &it.search,
+                          it.hops, LGM_MOST_HOPS, it.payloads, sizeof it.payloads, &it.lengths), LGM_CLOSED);
     free(edges);
 }
 

@@ -11,9 +11,11 @@
 
 static void closed_handles(void) {
     lgm_map map = {0};
+    lgm_estimates nothing = {0};
     uint8_t message[QUERY], room[8] = {5, 5, 5, 5, 5, 5, 5, 5};
     size_t needed = 77;
     lgm_payment payment = {0};
+    lgm_search search = {0};
     lgm_hop hops[1];
     lgm_lengths lengths = {77, 77};
     lgm_channel_info channel = {.capacity_sat = 77};
@@ -29,7 +31,8 @@ static void closed_handles(void) {
     expect("a closed handle's close", lgm_close_channel(&map, scid), LGM_CLOSED);
     expect("a closed handle's route", lgm_route(&map, &payment, hops, 1, room, 8, &lengths), LGM_CLOSED);
     expect("a closed handle's route over nothing",
-           lgm_route_over(&map, &payment, NULL, 0, NULL, 0, NULL, 0, 0, hops, 1, room, 8, &lengths), LGM_CLOSED);
+           lgm_route_over(&map, &payment, NULL, 0, NULL, 0, NULL, 0, &nothing, &search, hops, 1, room, 8, &lengths),
+           LGM_CLOSED);
     expect("a closed handle's query", lgm_query(&map, message, QUERY, room, 8, &needed), LGM_CLOSED);
     expect("a closed handle's filter", lgm_filter(&map, message, QUERY, room, 8, &needed), LGM_CLOSED);
     expect("a closed handle's news", lgm_news(&map, message, QUERY, room, 8, &needed), LGM_CLOSED);
@@ -49,7 +52,7 @@ static void closed_handles(void) {
     expect("the channel", channel.capacity_sat, 77);
     expect("the node", info.timestamp, 77);
     expect("the room", room[0] + room[7], 2 * 5);
-    expect("the handle", map.is_open, false);
+    expect("the handle", map.is_open || nothing.is_open, false);
 }
 
 static void opening(lgm_map *map) {
@@ -306,7 +309,9 @@ static void routing(lgm_map *map) {
 /* A pointer before the length 0 may be null. The map has one channel, with terms of node 1, and a node. */
 static void null_with_no_items(lgm_map *map) {
     lgm_map other = {0};
+    lgm_estimates nothing = {0};
     lgm_payment payment = {.amount_msat = 1000, .expiry = 700000};
+    lgm_search search = {0};
     lgm_lengths lengths = {0, 0};
     lgm_node_info info;
     uint8_t range[QUERY], filter[FILTER];
@@ -329,7 +334,8 @@ static void null_with_no_items(lgm_map *map) {
     expect("null for news", lgm_news(map, filter, FILTER, NULL, 0, &needed), LGM_ROOM);
     expect("null for a route", lgm_route(map, &payment, NULL, 0, NULL, 0, &lengths), LGM_ROOM);
     expect("its hops", lengths.hops, 1);
-    expect("null for lists", lgm_route_over(map, &payment, NULL, 0, NULL, 0, NULL, 0, 0, NULL, 0, NULL, 0, &lengths), LGM_ROOM);
+    expect("null for lists",
+           lgm_route_over(map, &payment, NULL, 0, NULL, 0, NULL, 0, &nothing, &search, NULL, 0, NULL, 0, &lengths), LGM_ROOM);
     expect("its hops", lengths.hops, 1);
     expect("null for addresses", lgm_node(map, a, &info, NULL, 0, &needed), LGM_ROOM);
     expect("their length", needed, 2);
@@ -341,7 +347,7 @@ static void words(void) {
         const char *word;
     } some[] = {{LGM_OK, "accepted"}, {LGM_MALFORMED, "malformed"}, {LGM_BANNED, "banned"},
                 {LGM_AMOUNT_TOO_LARGE, "amount-too-large"}, {LGM_NO_ROUTE, "no-route"}, {LGM_UNDECIDED, "undecided"},
-                {LGM_NOT_QUERY, "not-query"},
+                {LGM_SO_FAR, "so-far"}, {LGM_NOT_QUERY, "not-query"},
                 {LGM_ROOM, "room"}, {17, ""}, {UINT32_MAX, ""}};
     for (size_t i = 0; i < sizeof some / sizeof *some; i++) {
         uint8_t word[LGM_WORD_LEN];

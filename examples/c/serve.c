@@ -182,8 +182,9 @@ static void print_answer(uint64_t version, const attempt *it) {
 }
 
 static void route(lgm_map *published, uint64_t version, attempt *it) {
-    it->number = lgm_route_over(published, &payments[it->payment], NULL, 0, it->limits, it->limits_len, NULL, 0,
-                                LGM_ANY_DELAY, it->hops, LGM_MOST_HOPS, it->payloads, sizeof it->payloads, &it->lengths);
+    lgm_estimates nothing = {0};
+    it->number = lgm_route_over(published, &payments[it->payment], NULL, 0, it->limits, it->limits_len, NULL, 0, &nothing,
+                                &(lgm_search){0}, it->hops, LGM_MOST_HOPS, it->payloads, sizeof it->payloads, &it->lengths);
     if (it->number >= LGM_CLOSED) expect(it->number);
     if (!is_quiet) print_answer(version, it);
 }

@@ -140,8 +140,8 @@ class PathFinder(lnrouter.LNPathFinder):
         return limits
 
     def _route(self, payment, known):
-        """The best route within the wallet's limit of blocks. Where there is too much to search for that, channels that take
-        long are left out."""
+        """The best route within the wallet's limit of blocks. Where there is too much to search for that, it is the best one so
+        far; where none was found, channels that take long are left out."""
         while True:
             try:
                 return self.channel_db.routes.route(*payment, **known)

@@ -10,9 +10,10 @@ What a payer knows beside the map is passed with a payment, and what failed when
     limits = [Limit(hop.scid, hop.start, hop.amount_msat - 1)]   # of the hop that couldn't carry the amount
     route = network.route(.., edges=own_channels + hints, silent=[payer], limits=limits, most_delay=1_008)
 
-What it learns from its tries is kept in `Estimates`:
+What it learns from its tries is kept in `Estimates`, and a route by what it prefers takes account of that:
 
     with Estimates() as estimates:
+        route = network.route(.., preferences=Preferences(failure_msat=20_000, hop_msat=500), estimates=estimates)
         estimates.carried(hop.scid, hop.start, hop.amount_msat)   # of each hop before
         estimates.failed(hop.scid, hop.start, hop.amount_msat)    # of the hop that couldn't carry the amount
 
@@ -33,6 +34,7 @@ import os
 import re
 import sys
 import threading
+from contextlib import nullcontext
 from dataclasses import dataclass
 from functools import wraps
 from typing import Optional
@@ -131,6 +133,14 @@ class Estimate:
 
 
 @dataclass(frozen=True)
+class Preferences:
+    """What a payer prefers: what a failed try is worth to it, and what each hop is, in msat."""
+
+    failure_msat: int = 0
+    hop_msat: int = 0
+
+
+@dataclass(frozen=True)
 class Hop:
     """One channel of a route, with the HTLC that is offered over it, and the payload for the node at its end."""
 
@@ -144,9 +154,10 @@ class Hop:
 
 @dataclass(frozen=True)
 class Route:
-    """A route: its hops, from the payer on."""
+    """A route: its hops, from the payer on, and whether it is the best one. If labels or steps ran out, that isn't known."""
 
     hops: tuple
+    is_best: bool = True
 
     @property
     def sent_msat(self):
@@ -246,6 +257,22 @@ def _packed_limit(limit):
                          _octets("a point", limit.start, 33))
 
 
+def _limited(name, value, most):
+    """A limit as C has it: 0 stands for none."""
+    return 0 if value is None else _number(name, value, most + 1, least=1)
+
+
+def _packed_search(preferences, most_delay, most_hops, most_labels, most_steps):
+    """What a payer prefers, and limits."""
+    preferences = Preferences() if preferences is None else preferences
+    if not isinstance(preferences, Preferences):
+        raise TypeError(f"preferences are of the class Preferences, and not {type(preferences).__name__}")
+    return _c.SEARCH.pack(
+        _limited("most_steps", most_steps, 2**64 - 1), _limited("most_labels", most_labels, _c.MOST_SIZE),
+        _number("failure_msat", preferences.failure_msat, 2**32), _number("hop_msat", preferences.hop_msat, 2**32),
+        _limited("most_delay", most_delay, 2**16 - 1), _limited("most_hops", most_hops, _c.MOST_HOPS))
+
+
 def _packed(name, kind, values, pack):
     """Values of a class as C has them, one after the other, and their number."""
     values = list(values)
@@ -328,6 +355,7 @@ class Map(_Handle):
         self._hops = _Buffer(_c.MOST_HOPS * _c.HOP.size)
         self._payloads = _Buffer(_c.MOST_PAYLOADS)
         self._struct = _Buffer(max(_c.LENGTHS.size, _c.CHANNEL_LEN, _c.NODE.size))
+        self._nothing_known = _Buffer(_c.SIZE_OF_HANDLE)  # a closed handle of estimates
         self._offer = self._library.lgm_offer
 
     @classmethod
@@ -372,26 +400,40 @@ class Map(_Handle):
         """Bans a node, and removes its channels, as contradicting announcements ban theirs."""
         _check(self._library.lgm_ban(self._at, _octets("a point", point, 33)))
 
-    def route(self, payer, payee, amount_msat, expiry, secret, edges=(), limits=(), silent=(), most_delay=None):
-        """The route by which the payer sends the least, over edges beside the map's (`Edge`), with limits of what edges
-        carry (`Limit`), without the map's edges out of silent nodes (points), and with at most `most_delay` blocks between
-        its expiry and that of the payment.
+    def route(self, payer, payee, amount_msat, expiry, secret, edges=(), limits=(), silent=(), preferences=None,
+              estimates=None, most_delay=None, most_hops=None, most_labels=None, most_steps=None):
+        """The best route by what the payer prefers (`Preferences`) and has learnt of edges (`Estimates`), else the one by which
+        it sends the least. It is over edges beside the map's (`Edge`), with limits of what edges carry (`Limit`), without the
+        map's edges out of silent nodes (points), with at most `most_delay` blocks between its expiry and that of the payment,
+        and with at most `most_hops` hops.
 
-        Raises `Undecided` if there was too much to search: that says nothing about the payment."""
+        A search ends once it has made `most_labels` labels or taken `most_steps` steps, each by default a limit of the library.
+        Then the route may not be the best one (`is_best`). Without one so far this raises `Undecided`: that says nothing about
+        the payment. While it runs, other calls of the estimates wait; closed ones know nothing."""
         payment = _c.PAYMENT.pack(
             _number("amount_msat", amount_msat, 2**64), _number("expiry", expiry, 2**32),
             _octets("a point", payer, 33), _octets("a point", payee, 33), _octets("a secret", secret, 32))
         points = [_octets("a silent node", point, 33) for point in silent]
-        delay = _c.ANY_DELAY if most_delay is None else _number("most_delay", most_delay, _c.ANY_DELAY)
-        return self._route(
-            payment, *_packed("edges", Edge, edges, _packed_edge), *_packed("limits", Limit, limits, _packed_limit),
-            b"".join(points), len(points), delay)
+        if not (estimates is None or isinstance(estimates, Estimates)):
+            raise TypeError(f"estimates are of the class Estimates, and not {type(estimates).__name__}")
+        overlay = (*_packed("edges", Edge, edges, _packed_edge), *_packed("limits", Limit, limits, _packed_limit),
+                   b"".join(points), len(points))
+        search = _packed_search(preferences, most_delay, most_hops, most_labels, most_steps)
+        return self._route((payment, *overlay), estimates, search)
 
     @_alone
-    def _route(self, *asked):
-        """The route that a call writes."""
-        _check(self._library.lgm_route_over(
-            self._at, *asked, self._hops.at, _c.MOST_HOPS, self._payloads.at, _c.MOST_PAYLOADS, self._struct.at))
+    def _route(self, asked, estimates, search):
+        """The route that a call writes. Whoever takes the locks of a map and of estimates takes the map's first."""
+        known, lock = (self._nothing_known.at, nullcontext()) if estimates is None else (estimates._at, estimates._lock)
+        with lock:
+            number = self._library.lgm_route_over(self._at, *asked, known, search, self._hops.at, _c.MOST_HOPS,
+                                                  self._payloads.at, _c.MOST_PAYLOADS, self._struct.at)
+        if number != _c.SO_FAR:
+            _check(number)
+        return self._written_route(is_best=number != _c.SO_FAR)
+
+    def _written_route(self, is_best):
+        """The route in the buffers."""
         count, length = _c.LENGTHS.unpack_from(self._struct.bytes)
         payloads, end = self._payloads.front(length), 0
         hops = []
@@ -399,7 +441,7 @@ class Map(_Handle):
                 self._hops.front(count * _c.HOP.size)):
             start, end = end, end + payload_len
             hops.append(Hop(scid, amount, hop_expiry, sender, receiver, payloads[start:end]))
-        return Route(tuple(hops))
+        return Route(tuple(hops), is_best)
 
     @_alone
     def query(self, message):

@@ -7,10 +7,10 @@ from functools import lru_cache
 from pathlib import Path
 
 LIBRARY = os.environ.get("LGM_LIBRARY") or Path(__file__).resolve().parent.parent / "out" / "liblgm.so"
-VERSION = 2
+VERSION = 3
+SO_FAR = 27
 ROOM = 104
 NONE = 107
-ANY_DELAY = 65535
 MOST_HOPS = 20
 MOST_PAYLOADS = 1300
 
@@ -21,6 +21,7 @@ LIMIT = struct.Struct("@QQ33s0Q")
 HOP = struct.Struct("@QQNI33s33s0Q")
 LENGTHS = struct.Struct("@NN")
 ESTIMATE = struct.Struct("@QQQ")
+SEARCH = struct.Struct("@QNIIHB0Q")
 DIRECTION = struct.Struct("@?BBHIIIQQ")
 CHANNEL = struct.Struct("@Q33s33s0Q")
 CHANNEL_LEN = CHANNEL.size + 2 * DIRECTION.size
@@ -30,6 +31,7 @@ SIZE_OF_HANDLE = struct.calcsize("@?P")
 # Bytes, and the address of a buffer.
 BYTES, AT = ctypes.c_char_p, ctypes.c_void_p
 SIZE, U32, U64 = ctypes.c_size_t, ctypes.c_uint32, ctypes.c_uint64
+MOST_SIZE = 2 ** (8 * ctypes.sizeof(SIZE)) - 1
 ANSWERING = [AT, BYTES, SIZE, AT, SIZE, AT]
 
 # The calls of the header, each with its result and its arguments.
@@ -44,7 +46,7 @@ CALLS = {
     "lgm_ban": (U32, [AT, BYTES]),
     "lgm_count": (SIZE, [AT]),
     "lgm_route": (U32, [AT, BYTES, AT, SIZE, AT, SIZE, AT]),
-    "lgm_route_over": (U32, [AT, BYTES, BYTES, SIZE, BYTES, SIZE, BYTES, SIZE, ctypes.c_uint16, AT, SIZE, AT, SIZE, AT]),
+    "lgm_route_over": (U32, [AT, BYTES, BYTES, SIZE, BYTES, SIZE, BYTES, SIZE, AT, BYTES, AT, SIZE, AT, SIZE, AT]),
     "lgm_estimates_open": (U32, [AT]),
     "lgm_estimates_free": (None, [AT]),
     "lgm_estimate": (U32, [AT, U64, BYTES, AT]),
@@ -84,12 +86,12 @@ def load():
     return library
 
 
-def number(name, value, below):
+def number(name, value, below, least=0):
     """A number that C would cut to its type."""
     if not isinstance(value, int) or isinstance(value, bool):
         raise TypeError(f"{name} is an int, and not {value!r:.80}")
-    if not 0 <= value < below:
-        raise ValueError(f"{name} is from 0 to {below - 1}, and not {value}")
+    if not least <= value < below:
+        raise ValueError(f"{name} is from {least} to {below - 1}, and not {value}")
     return value
 
 

@@ -42,6 +42,11 @@ def over_limit(network, name):
     return lambda value: network.route(**PAYMENT, limits=[replace(LIMIT, **{name: value})])
 
 
+def over_preference(network, name):
+    """The same by what the payer prefers."""
+    return lambda value: network.route(**PAYMENT, preferences=lgm.Preferences(**{name: value}))
+
+
 def over_estimate(estimates, name):
     """An estimate with a value in one of its fields."""
     return lambda value: estimates.set(1, POINT, replace(ESTIMATE, **{name: value}))
@@ -57,6 +62,15 @@ def refusal(call, *arguments, **named):
     return None
 
 
+def fault(call, *arguments, **named):
+    """The class of the fault that a call raises."""
+    try:
+        call(*arguments, **named)
+    except lgm.Fault as raised:
+        return type(raised)
+    return None
+
+
 def numbers_have_ranges(network):
     """No number is cut to the type that C has for it, and none is made of something else."""
     for call, below in ((network.close_channel, 2**64), (network.channel, 2**64), (network.message, 2**64),
@@ -64,7 +78,7 @@ def numbers_have_ranges(network):
                         (lambda sat: network.offer(b"", lgm.ALL_FOUR, sat), 2**64),
                         (lambda msat: network.route(**{**PAYMENT, "amount_msat": msat}), 2**64),
                         (lambda expiry: network.route(**{**PAYMENT, "expiry": expiry}), 2**32),
-                        (lambda delay: network.route(**PAYMENT, most_delay=b"" if delay is None else delay), 2**16 - 1),
+                        (over_preference(network, "failure_msat"), 2**32), (over_preference(network, "hop_msat"), 2**32),
                         *((over_edge(network, name), below) for name, below in (
                             ("scid", 2**64), ("htlc_minimum_msat", 2**64), ("htlc_maximum_msat", 2**64),
                             ("fee_base_msat", 2**32), ("fee_proportional_millionths", 2**32),
@@ -74,6 +88,23 @@ def numbers_have_ranges(network):
             assert refusal(call, value) is ValueError, (call, value)
         for value in (1.0, True, None, b"1"):
             assert refusal(call, value) is TypeError, (call, value)
+
+
+def limits_of_a_search_are_from_1_on(network):
+    """0 would stand for none in C, so it is refused, and None stands for none."""
+    for name, most in (("most_delay", 65_535), ("most_hops", 20), ("most_labels", 2**64 - 1), ("most_steps", 2**64 - 1)):
+        for value in (-1, 0, most + 1):
+            assert refusal(network.route, **PAYMENT, **{name: value}) is ValueError, (name, value)
+        for value in (1.0, True, b"1"):
+            assert refusal(network.route, **PAYMENT, **{name: value}) is TypeError, (name, value)
+
+
+def what_is_preferred_has_a_class(network):
+    """Preferences and estimates are of their classes, or None."""
+    for preferences in ((1, 2), {"hop_msat": 1}, 1, LIMIT):
+        assert refusal(network.route, **PAYMENT, preferences=preferences) is TypeError
+    for estimates in ({}, [ESTIMATE], ESTIMATE, network, 0):
+        assert refusal(network.route, **PAYMENT, estimates=estimates) is TypeError
 
 
 def bytes_have_types_and_lengths(network):
@@ -135,24 +166,68 @@ def lists_have_classes(network):
     assert refusal(network.route, **PAYMENT, silent=POINT) is TypeError
 
 
+def asked(library, network, **known):
+    """The arguments of the call that a payment makes, behind the map and the payment."""
+    del library.calls[:]
+    network.route(**PAYMENT, **known)
+    (name, _, *arguments), = library.calls
+    assert name == "lgm_route_over"
+    return arguments
+
+
 def what_a_payer_knows_is_packed(library, network):
-    """Edges, limits and silent nodes come to the library as C has them, and any delay as 65,535."""
+    """Edges, limits and silent nodes come to the library as C has them."""
     edge = lgm.Edge(2**64 - 1, POINT, b"\3" * 33, 2**32 - 1, 2, 3, 4)
     limit = lgm.Limit(5, bytearray(POINT), 6)
-    for most_delay, number in ((None, 65535), (65534, 65534), (0, 0)):
-        del library.calls[:]
-        try:
-            network.route(**PAYMENT, edges=iter([edge, EDGE]), limits=(limit,), silent=[POINT, CHAIN + b"7"],
-                          most_delay=most_delay)
-        except IndexError:
-            pass  # the stub writes no hops
-        name, _, edges, edges_len, limits, limits_len, silent, silent_len, delay, *_ = library.calls[0]
-        assert (name, delay) == ("lgm_route_over", number)
-        assert (edges_len, limits_len, silent_len) == (2, 1, 2)
-        assert lgm._c.EDGE.unpack_from(edges) == (2**64 - 1, 4, 2**64 - 1, 2**32 - 1, 2, 3, POINT, b"\3" * 33)
-        assert lgm._c.EDGE.unpack_from(edges, 104) == (1, 0, 2**64 - 1, 0, 0, 0, POINT, POINT) and len(edges) == 2 * 104
-        assert lgm._c.LIMIT.unpack(limits) == (5, 6, POINT) and len(limits) == 56
-        assert silent == POINT + CHAIN + b"7"
+    edges, edges_len, limits, limits_len, silent, silent_len, *_ = asked(
+        library, network, edges=iter([edge, EDGE]), limits=(limit,), silent=[POINT, CHAIN + b"7"])
+    assert (edges_len, limits_len, silent_len) == (2, 1, 2)
+    assert lgm._c.EDGE.unpack_from(edges) == (2**64 - 1, 4, 2**64 - 1, 2**32 - 1, 2, 3, POINT, b"\3" * 33)
+    assert lgm._c.EDGE.unpack_from(edges, 104) == (1, 0, 2**64 - 1, 0, 0, 0, POINT, POINT) and len(edges) == 2 * 104
+    assert lgm._c.LIMIT.unpack(limits) == (5, 6, POINT) and len(limits) == 56
+    assert silent == POINT + CHAIN + b"7"
+
+
+def what_a_payer_prefers_is_packed(library, network, estimates):
+    """Preferences and limits come to the library as C has them, what is left out as 0, and no estimates as a closed handle."""
+    *_, handle, search, _hops, hops_len, _payloads, payloads_len, _lengths = asked(
+        library, network, preferences=lgm.Preferences(2**32 - 1, 5), estimates=estimates, most_delay=65_535, most_hops=20,
+        most_labels=2**64 - 1, most_steps=7)
+    assert lgm._c.SEARCH.unpack(search) == (7, 2**64 - 1, 2**32 - 1, 5, 65_535, 20) and len(search) == 32
+    assert (handle, hops_len, payloads_len) == (estimates._at, 20, 1_300)
+    for preferences in (None, lgm.Preferences()):
+        *_, handle, search, _hops, _hops_len, _payloads, _payloads_len, _lengths = asked(
+            library, network, preferences=preferences)
+        assert search == bytes(32) and ctypes.string_at(handle, 16) == bytes(16)
+    assert asked(library, network, most_delay=1)[7] == lgm._c.SEARCH.pack(0, 0, 0, 0, 1, 0)
+
+
+class Answering(Stub):
+    """A library that answers payments with a number, while it tries whether the estimates are taken."""
+
+    def __init__(self, number):
+        super().__init__()
+        self.number, self.estimates, self.is_taken = number, None, None
+
+    def lgm_route_over(self, *_):
+        self.is_taken = self.estimates._lock.locked()
+        return self.number
+
+
+def routes_tell_whether_they_are_the_best():
+    """A route of the number 27 may not be the best one. Meanwhile no other call has the estimates, and then each may."""
+    for number, is_best in ((0, True), (27, False)):
+        library = Answering(number)
+        lgm._load = lambda: library
+        network, library.estimates = lgm.Map(CHAIN), lgm.Estimates()
+        route = network.route(**PAYMENT, estimates=library.estimates)
+        assert route == lgm.Route((), is_best) and library.is_taken
+        assert len(library.estimates) == 0 and not library.estimates._lock.locked()
+        assert network.route(**PAYMENT).is_best is is_best and not library.is_taken
+    library.number = 26
+    assert fault(network.route, **PAYMENT, estimates=library.estimates) is lgm.Undecided
+    assert not library.estimates._lock.locked() and not network._lock.locked()
+    assert lgm.Route(()) == lgm.Route((), True) != lgm.Route((), False)
 
 
 def what_is_believed_is_packed(library, estimates):
@@ -218,18 +293,21 @@ def main():
     library = Stub()
     lgm._load = lambda: library
     network, estimates = lgm.Map(CHAIN), lgm.Estimates()
-    refusing = (numbers_have_ranges, bytes_have_types_and_lengths, verdicts_are_named, lists_have_classes)
+    refusing = (numbers_have_ranges, bytes_have_types_and_lengths, verdicts_are_named, lists_have_classes,
+                limits_of_a_search_are_from_1_on, what_is_preferred_has_a_class)
     for test in refusing:
         test(network)
     estimates_are_of_edges(estimates)
     assert {name for name, *_ in library.calls} <= {"lgm_open", "lgm_free", "lgm_estimates_open"}
     bytes_of_any_kind_are_taken(network, library)
     what_a_payer_knows_is_packed(library, network)
+    what_a_payer_prefers_is_packed(library, network, estimates)
     what_is_believed_is_packed(library, estimates)
     a_map_is_true(network)
     ids_have_parts()
     large_buffers_are_given_back()
-    print(f"{len(refusing) + 7} passed")
+    routes_tell_whether_they_are_the_best()
+    print(f"{len(refusing) + 9} passed")
 
 
 if __name__ == "__main__":

@@ -1,9 +1,10 @@
-"""Payments over what a payer knows beside the map, in a map that changes and in a published one. The numbers are worked out
-by hand, from docs/protocol.md.
+"""Payments over what a payer knows beside the map, and by what it prefers, in a map that changes and in a published one. The
+numbers are worked out by hand, from docs/protocol.md.
 """
 
-from calls import A, B, HOP, LENGTHS, NUMBER, PAYLOAD, PAYMENT, SECRET, Hop, at, free, library, opened, paid, published, test
-from lgm_library import ANY_DELAY, EDGE, LIMIT, MOST_HOPS, MOST_PAYLOADS
+from calls import (
+    A, B, HOP, LENGTHS, NUMBER, PAYLOAD, PAYMENT, SECRET, Hop, at, closed, free, library, opened, paid, published, test)
+from lgm_library import EDGE, LIMIT, MOST_HOPS, MOST_PAYLOADS, SEARCH
 
 C, D = b"\4" * 33, b"\5" * 33
 DIRECT = 0, 1, NUMBER, 10_000, 700_000  # the answer over the channel of the map alone
@@ -14,9 +15,9 @@ def refusal(number):
     return number, 7, 0, 0, 0
 
 
-def edge(scid, start, end, base, delta):
-    """An edge that carries any amount."""
-    return EDGE.pack(scid, 0, 2**64 - 1, base, 0, delta, start, end)
+def edge(scid, start, end, base, delta, most_msat=2**64 - 1):
+    """An edge that carries any amount up to a maximum."""
+    return EDGE.pack(scid, 0, most_msat, base, 0, delta, start, end)
 
 
 def limit(scid, start, most_msat):
@@ -24,15 +25,26 @@ def limit(scid, start, most_msat):
     return LIMIT.pack(scid, most_msat, start)
 
 
-def route_over(handle, payee, amount_msat=10_000, edges=b"", limits=b"", silent=b"", most_delay=ANY_DELAY,
+def search(failure_msat=0, hop_msat=0, most_delay=0, most_hops=0, most_labels=0, most_steps=0):
+    """What a payer prefers, and limits."""
+    return SEARCH.pack(most_steps, most_labels, failure_msat, hop_msat, most_delay, most_hops)
+
+
+PLAIN = search()  # zeros
+# Two edges from B to C: 6 for 5 msat, which carries so little more than 10,000 that its odds are 1 to 1, and 7 for 9 msat.
+TWO_HINTS = edge(6, B, C, 5, 30, 19_999) + edge(7, B, C, 9, 10)
+OVER_6, OVER_7 = (0, 2, NUMBER, 10_005, 700_030), (0, 2, NUMBER, 10_009, 700_010)  # the answers over these
+
+
+def route_over(handle, payee, amount_msat=10_000, edges=b"", limits=b"", silent=b"", estimates=None, asked=PLAIN,
                hops_len=MOST_HOPS, payloads_len=MOST_PAYLOADS):
     """What a payment of A at block 700,000 is answered: the number, the first hop over zeros, the lengths over 7, and the
-    payloads. Edges, limits and silent nodes stand one after the other."""
-    payment = PAYMENT.pack(amount_msat, 700_000, A, payee, SECRET)
+    payloads. Edges, limits and silent nodes stand one after the other. Nothing is known without a handle of estimates."""
+    payment, estimates = PAYMENT.pack(amount_msat, 700_000, A, payee, SECRET), closed() if estimates is None else estimates
     hops, payloads, lengths = bytearray(hops_len * HOP.size), bytearray(payloads_len), bytearray(LENGTHS.pack(7, 7))
     number = library.lgm_route_over(
         handle, payment, edges, len(edges) // EDGE.size, limits, len(limits) // LIMIT.size, silent, len(silent) // 33,
-        most_delay, at(hops), hops_len, at(payloads), payloads_len, at(lengths))
+        estimates, asked, at(hops), hops_len, at(payloads), payloads_len, at(lengths))
     return number, Hop(*HOP.unpack_from(hops)), LENGTHS.unpack(lengths), payloads
 
 
@@ -60,7 +72,7 @@ def nothing_beside_the_map():
     """Over nothing, a payment has the route that it has in the map alone."""
     handles = both_kinds()
     assert answer_of_both(handles, B) == DIRECT
-    assert answer_of_both(handles, B, most_delay=0) == DIRECT
+    assert answer_of_both(handles, B, asked=search(most_delay=1, most_hops=1)) == DIRECT
     assert answer_of_both(handles, C) == refusal(25)
     assert answer_of_both(handles, A) == refusal(24)
     payloads = bytearray(46)
@@ -70,7 +82,7 @@ def nothing_beside_the_map():
     assert payloads == over_payloads == PAYLOAD
     assert (hop.start, hop.end) == (over_hop.start, over_hop.end) == (A, B)
     free(*handles)
-    assert answer(handles[1], B, most_delay=0) == refusal(100)
+    assert answer(handles[1], B) == refusal(100)
 
 
 @test
@@ -104,10 +116,60 @@ def hints_within_a_delay():
     hints = edge(6, B, C, 5, 30) + edge(7, C, D, 0, 65_535)
     to_c = 0, 2, NUMBER, 10_005, 700_030
     assert answer_of_both(handles, C, edges=hints) == to_c
-    assert answer_of_both(handles, C, edges=hints, most_delay=30) == to_c
-    assert answer_of_both(handles, C, edges=hints, most_delay=29) == refusal(25)
+    assert answer_of_both(handles, C, edges=hints, asked=search(most_delay=30)) == to_c
+    assert answer_of_both(handles, C, edges=hints, asked=search(most_delay=29)) == refusal(25)
     assert answer_of_both(handles, D, edges=hints) == (0, 3, NUMBER, 10_005, 765_565)
-    assert answer_of_both(handles, D, edges=hints, most_delay=ANY_DELAY - 1) == refusal(25)
+    assert answer_of_both(handles, D, edges=hints, asked=search(most_delay=65_535)) == refusal(25)
+    free(*handles)
+
+
+@test
+def preferences():
+    """A penalty changes the route, and is no part of what is sent. Where both cost the same, the lesser id decides."""
+    handles = both_kinds()
+    assert answer_of_both(handles, C, edges=TWO_HINTS) == OVER_6
+    # With 4 msat for a failed try the costs are 10,005 + 4 and 10,009, with 5 msat 10,005 + 5 and 10,009.
+    assert answer_of_both(handles, C, edges=TWO_HINTS, asked=search(failure_msat=4)) == OVER_6
+    assert answer_of_both(handles, C, edges=TWO_HINTS, asked=search(failure_msat=5)) == OVER_7
+    assert answer_of_both(handles, C, edges=TWO_HINTS, asked=search(failure_msat=2**32 - 1, hop_msat=2**32 - 1)) == OVER_7
+    assert answer_of_both(handles, C, edges=TWO_HINTS, asked=search(failure_msat=4, most_delay=29)) == OVER_7
+    assert answer_of_both(handles, C, edges=TWO_HINTS, asked=search(failure_msat=4, most_delay=9)) == refusal(25)
+    free(*handles)
+
+
+@test
+def few_hops():
+    """The most hops of a route are a limit, and what a hop is worth is none."""
+    handles = both_kinds()
+    hints = edge(6, B, D, 0, 10) + edge(7, D, C, 0, 10) + edge(8, B, C, 50, 10)
+    three, two = (0, 3, NUMBER, 10_000, 700_020), (0, 2, NUMBER, 10_050, 700_010)
+    for most_hops in (0, 3, 20):
+        assert answer_of_both(handles, C, edges=hints, asked=search(most_hops=most_hops)) == three
+    assert answer_of_both(handles, C, edges=hints, asked=search(most_hops=2)) == two
+    assert answer_of_both(handles, C, edges=hints, asked=search(most_hops=1)) == refusal(25)
+    # Two hops count beside the payer's own: 10,098 and 10,099; with 50 msat both cost 10,100, and the fewer ones win.
+    assert answer_of_both(handles, C, edges=hints, asked=search(hop_msat=49)) == three
+    assert answer_of_both(handles, C, edges=hints, asked=search(hop_msat=50)) == two
+    free(*handles)
+
+
+@test
+def small_budgets():
+    """One label is that of the payee, so nothing is found. One step suffices for the cheapest way, and not to be certain."""
+    handles = both_kinds()
+    assert answer_of_both(handles, C, edges=TWO_HINTS, asked=search(most_labels=1, most_steps=1)) == OVER_6
+    assert answer_of_both(handles, C, edges=TWO_HINTS, asked=search(most_labels=1, most_delay=10)) == refusal(26)
+    assert answer_of_both(handles, C, edges=TWO_HINTS, asked=search(most_labels=1, most_delay=9)) == refusal(25)
+    assert answer_of_both(handles, C, edges=TWO_HINTS, asked=search(failure_msat=5, most_labels=1)) == refusal(26)
+    one_step = search(failure_msat=5, most_steps=1)
+    assert answer_of_both(handles, C, edges=TWO_HINTS, asked=one_step) == (27, *OVER_7[1:])
+    assert answer_of_both(handles, C, edges=TWO_HINTS, asked=one_step, hops_len=1) == (104, 2, 0, 0, 0)
+    for most_labels, most_steps in ((1_000, 100_000), (2**64 - 1, 2**64 - 1)):
+        many = search(failure_msat=5, most_labels=most_labels, most_steps=most_steps)
+        assert answer_of_both(handles, C, edges=TWO_HINTS, asked=many) == OVER_7
+    number, _, lengths, payloads = route_over(handles[0], C, edges=TWO_HINTS, asked=one_step)
+    *_, best_lengths, best_payloads = route_over(handles[0], C, edges=TWO_HINTS, asked=search(failure_msat=5))
+    assert (number, lengths, payloads) == (27, best_lengths, best_payloads)
     free(*handles)
 
 
@@ -119,9 +181,9 @@ def most_edges():
     assert answer_of_both(handles, C, edges=edges) == (0, 2, NUMBER, 10_005, 700_030)
     edges += edge(5, B, A, 0, 0)
     assert answer_of_both(handles, C, edges=edges) == refusal(103)
-    assert answer(handles[0], C, amount_msat=0, edges=edges, most_delay=0) == refusal(103)
+    assert answer(handles[0], C, amount_msat=0, edges=edges) == refusal(103)
     free(*handles)
-    assert answer(handles[0], C, amount_msat=0, edges=edges, most_delay=0) == refusal(100)
+    assert answer(handles[0], C, amount_msat=0, edges=edges) == refusal(100)
 
 
 def node(number):
@@ -145,16 +207,18 @@ def wide_network():
 
 @test
 def undecided():
-    """Where as many labels as a search makes don't suffice, a payment is undecided, and only there."""
+    """Where the steps that a search takes by default don't suffice, a payment is undecided, and only there."""
     handles = both_kinds()
     edges, payee = wide_network(), node(10)
     # Within 1,008 blocks each of the nodes side by side has 256 ways to the payee, of which none is cheaper and quicker than
-    # another, and all of which are cheaper than what the first node charges. These are 1,536,000 labels. Within 1,455 blocks
-    # the best route of all is one, and so it is within 1,008 without the edges that delay by 600.
-    assert answer_of_both(handles, payee, edges=edges, most_delay=1_008) == refusal(26)
+    # another, and all of which are cheaper than what the first node charges. These are 1,536,000 labels, each of which is
+    # compared with all earlier ones of its node. Within 1,455 blocks the best route of all is one, and so it is within 1,008
+    # without the edges that delay by 600.
+    assert answer_of_both(handles, payee, edges=edges, asked=search(most_delay=1_008)) == refusal(26)
     free_of_charge = 0, 13, 1, 10_000, 701_455
-    assert answer_of_both(handles, payee, edges=edges, most_delay=1_455) == free_of_charge
+    assert answer_of_both(handles, payee, edges=edges, asked=search(most_delay=1_455)) == free_of_charge
     assert answer_of_both(handles, payee, edges=edges) == free_of_charge
     dear = 0, 12, 1, 1_010_000, 700_255
-    assert answer_of_both(handles, payee, edges=edges, limits=limit(3, node(0), 0), most_delay=1_008) == dear
+    quick = limit(3, node(0), 0)
+    assert answer_of_both(handles, payee, edges=edges, limits=quick, asked=search(most_delay=1_008)) == dear
     free(*handles)

@@ -113,9 +113,10 @@ def word_of(number):
 
 @test
 def words():
-    """A number has its word, with zeros behind it, or none; and the version is 2."""
+    """A number has its word, with zeros behind it, or none; and the version is 3."""
     assert word_of(0) == b"accepted\0\0\0\0\0\0\0\0\0\0\0\0\0\0\0\0"
     assert word_of(26) == b"undecided\0\0\0\0\0\0\0\0\0\0\0\0\0\0\0"
+    assert word_of(27) == b"so-far\0\0\0\0\0\0\0\0\0\0\0\0\0\0\0\0\0\0"
     assert word_of(106) == b"published\0\0\0\0\0\0\0\0\0\0\0\0\0\0\0"
     assert word_of(17) == bytes(24)
-    assert library.lgm_version() == 2
+    assert library.lgm_version() == 3

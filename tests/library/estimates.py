@@ -1,8 +1,11 @@
-"""What a payer has learnt of edges. The numbers are worked out by hand, from include/lgm.h."""
+"""What a payer has learnt of edges, and routes by it. The numbers are worked out by hand, from include/lgm.h and
+docs/protocol.md.
+"""
 
 from ctypes import byref, c_uint64
 
-from calls import A, B, NUMBER, at, closed, library, test
+from attempts import OVER_6, OVER_7, PLAIN, TWO_HINTS, C, answer, answer_of_both, both_kinds, edge, refusal, search
+from calls import A, B, NUMBER, at, closed, free, library, test
 from lgm_library import ESTIMATE
 
 MOST = 2**64 - 1
@@ -113,3 +116,50 @@ def places():
     assert sorted(entries(handle)) == sorted(left)
     assert all(estimate(handle, scid, start) == (0, believed) for scid, start, believed in left)
     library.lgm_estimates_free(handle)
+
+
+def answer_by(handles, estimates, asked):
+    """What a payment over two hints is answered in both maps, by what is known. That stays as it is."""
+    before = entries(estimates)
+    found = answer_of_both(handles, C, edges=TWO_HINTS, estimates=estimates, asked=asked)
+    assert entries(estimates) == before
+    return found
+
+
+@test
+def routes():
+    """What is learnt of an edge changes the route, from the next call on."""
+    known, handles = opened(), both_kinds()
+    liked = search(failure_msat=1_000)
+    assert answer_by(handles, known, PLAIN) == OVER_6
+    assert answer_by(handles, known, liked) == OVER_7
+    assert library.lgm_estimates_carried(known, 6, B, 10_000) == 0
+    assert answer_by(handles, known, liked) == OVER_6
+    # It surely carries 9,999 msat and no more, so the odds are 1 to 1 again.
+    assert library.lgm_estimates_failed(known, 6, B, 10_000) == 0
+    assert answer_by(handles, known, liked) == OVER_7
+    # Now the costs are 10,005 + 1,000 and 10,009 + 995 or 996: as much, and then the lesser id decides.
+    for penalty, found in ((995, OVER_7), (996, OVER_6)):
+        assert library.lgm_estimates_set(known, 7, B, ESTIMATE.pack(0, MOST, penalty)) == 0
+        assert answer_by(handles, known, liked) == found
+    library.lgm_estimates_free(known)
+    free(*handles)
+
+
+@test
+def routes_by_penalties_alone():
+    """A penalty counts without preferences, and that of the payer's own edge doesn't. A closed handle knows nothing."""
+    known, handles = opened(), both_kinds()
+    for penalty, found in ((4, OVER_6), (5, OVER_7)):
+        assert library.lgm_estimates_set(known, 6, B, ESTIMATE.pack(0, MOST, penalty)) == 0
+        assert answer_by(handles, known, PLAIN) == found
+    own = edge(5, A, B, 9, 9) + TWO_HINTS
+    assert library.lgm_estimates_set(known, 5, A, ESTIMATE.pack(0, MOST, 2**40)) == 0
+    assert answer_of_both(handles, C, edges=own, estimates=known) == (0, 2, 5, 10_009, 700_010)
+    library.lgm_estimates_free(known)
+    assert answer_by(handles, known, PLAIN) == OVER_6
+    assert library.lgm_estimates_open(known) == 0
+    free(*handles)
+    assert answer(handles[0], C, edges=TWO_HINTS, estimates=known) == refusal(100)
+    assert library.lgm_estimates_count(known) == 0 and library.lgm_estimates_open(known) == 101
+    library.lgm_estimates_free(known)

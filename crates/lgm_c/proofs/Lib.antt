@@ -9,3 +9,4 @@ mod Marks
 mod Hops
 mod ShortWords
 mod Searches
+mod Written

@@ -1,127 +1,140 @@
--- When a route is searched for.
-use Rattle.std.proofs.Common.{◌≡◌, ℕ, ◌≤◌, ◌<◌, Bool, true, false, List, length, Option, Some, None, Result, Ok, Err}
-use Rattle.std.proofs.Common.{inl, inr, refl, sym, ap, ◌∙◌, nat_lt, nat_eq}
+-- When a route is searched for, and what the search for an attempt gives.
+use Rattle.std.proofs.Common.{◌≡◌, ◌⊎◌, ℕ, ◌≤◌, ◌<◌, Bool, true, false, List, [], length, Option, Some, None, Result, Ok, Err}
+use Rattle.std.proofs.Common.{inl, inr, refl, sym, ap, subst, ◌∙◌, nat_lt}
 use Rattle.std.specs.Prelude.{if◌then◌else◌}
 use Rattle.std.proofs.lemmas.Bool.{le-ltb, lt-ltb}
 use Rattle.std.specs.Result.{IsErrAnd}
 use Rattle.lgm_graph.specs.declared.view.TheConstants.{MAX_CHANNELS}
-use Rattle.lgm_graph.specs.Edges.{PointEdge, edges_of}
-use Rattle.lgm_graph.specs.Overlay.{no_overlay, IsNeutral}
+use Rattle.lgm_graph.specs.declared.route.Hop.{Hop}
+use Rattle.lgm_graph.specs.Edges.{PointEdge, AreKeyed, edges_of}
+use Rattle.lgm_graph.specs.Estimates.{Entries}
+use Rattle.lgm_graph.specs.Overlay.{IsNeutral}
 use Rattle.lgm_route.specs.Answers.{refusal}
-use Rattle.lgm_route.specs.Choice.{answer_of, found_by, least_walk}
-use Rattle.lgm_route.specs.Within.{answer_within_of, least_walk_within, as_limited}
+use Rattle.lgm_route.specs.Choice.{answer_of, found_by}
+use Rattle.lgm_route.specs.Preferred.{penalty_at, preferred_answer, preferred_walk, no_limits, no_preferences, IsBeyond, NothingPreferred}
+use Rattle.lgm_route.specs.declared.limits.RouteLimits.{RouteLimits}
 use Rattle.lgm_route.specs.declared.request.Request.{Request}
 use Rattle.lgm_route.specs.declared.fault.RouteFault.{RouteFault}
-use Rattle.lgm_route.specs.declared.within.LimitedFault.{LimitedFault}
-use Rattle.lgm_route.specs.declared.within.LimitedFault.TheVariants as limited
-use Rattle.lgm_graph.specs.declared.route.Hop.{Hop}
-use Rattle.lgm_c.specs.declared.attempt.TheConstants.{ANY_DELAY}
+use Rattle.lgm_route.specs.declared.fault.RouteFault.TheVariants as reasons
+use Rattle.lgm_route.specs.declared.found.Found.{Found}
+use Rattle.lgm_route.specs.declared.found.SearchFault.{SearchFault}
+use Rattle.lgm_route.specs.declared.found.SearchFault.TheVariants as searched
 use Rattle.lgm_c.specs.declared.fault.Fault.{Fault}
 use Rattle.lgm_c.specs.declared.fault.Fault.TheVariants as faults
+use Rattle.lgm_c.specs.declared.routes.LgmPayment.{LgmPayment}
 use Rattle.lgm_store.specs.Rows.{Rows}
-use Rattle.lgm_c.specs.Attempts.{AttemptParts, edges_for, answer_in_time, route_over, IsOverDelay}
-use Rattle.lgm_c.specs.Routing.{found_or_unrouted, IsSearched}
-use Rattle.lgm_c.specs.Status.{unrouted, unrouted_in_time}
+use Rattle.lgm_c.specs.Attempts.{AttemptParts, plain_attempt, edges_for, answer_for, route_over, MayStop}
+use Rattle.lgm_c.specs.Routing.{found_or_unrouted, routed_in, route_asked, IsSearched}
+use Rattle.lgm_c.specs.Status.{unrouted, unfound}
 use Rattle.lgm_c.specs.inner.Searching.{IsFound, IsRouted}
 
--- a request that is refused whatever the edges are needs no search
-module _ (edges : List PointEdge) (request : Request) (reason : RouteFault) (is : refusal request ≡ Some reason) where
-  refused_plainly : answer_of edges request ≡ Err reason
-  unfolding answer_of
-  refused_plainly = rw is refl
+module _ (penalty : PointEdge → ℕ → ℕ) (limits : RouteLimits) (edges : List PointEdge) (request : Request) where
+  -- a request that is refused whatever the edges are needs no search
+  refused_at_once : (reason : RouteFault) → refusal request ≡ Some reason
+      → preferred_answer penalty limits edges request ≡ Err reason
+  unfolding preferred_answer
+  refused_at_once reason is = rw is refl
 
-  refused_within : (most_delay : ℕ) → answer_within_of most_delay edges request ≡ Err reason
-  unfolding answer_within_of
-  refused_within most_delay = rw is refl
+  -- for any other a route is searched for
+  searched_by : (walk : Option (List PointEdge)) → IsSearched (found_or_unrouted (found_by request walk))
+  searched_by (Some walk) = tt
+  searched_by None = refl
 
-  pub refused_at_once : (most_delay : ℕ) → answer_in_time most_delay edges request ≡ Err reason
-  refused_at_once most_delay = either (nat_eq most_delay ANY_DELAY)
-    where
-      either : (test : Bool) → (if test then answer_of edges request else answer_within_of most_delay edges request) ≡ Err reason
-      either true = refused_plainly
-      either false = refused_within most_delay
-
--- for any other a route is searched for
-searched_by : (request : Request) (walk : Option (List PointEdge)) → IsSearched (found_or_unrouted (found_by request walk))
-searched_by request (Some walk) = tt
-searched_by request None = refl
-
-module _ (edges : List PointEdge) (request : Request) (is : refusal request ≡ None) where
-  searched_plainly : IsSearched (found_or_unrouted (answer_of edges request))
-  unfolding answer_of
-  searched_plainly = rw is (searched_by request (least_walk edges request))
-
-  searched_within : (most_delay : ℕ) → IsSearched (found_or_unrouted (answer_within_of most_delay edges request))
-  unfolding answer_within_of
-  searched_within most_delay = rw is (searched_by request (least_walk_within most_delay edges request))
-
-  pub searched : (most_delay : ℕ) → IsSearched (found_or_unrouted (answer_in_time most_delay edges request))
-  searched most_delay = either (nat_eq most_delay ANY_DELAY)
-    where
-      either : (test : Bool) → IsSearched (found_or_unrouted
-          (if test then answer_of edges request else answer_within_of most_delay edges request))
-      either true = searched_plainly
-      either false = searched_within most_delay
-
--- the fault of a search
-abbrev fault_in : Result (List Hop) LimitedFault → Fault
-fault_in (Ok hops) = faults.NoMemory
-fault_in (Err fault) = unrouted_in_time fault
-
--- what an answer is, by what a call within a limit returns
-limited_err : (answer : Result (List Hop) RouteFault) (fault : LimitedFault) → Err fault ≡ as_limited answer
-    → found_or_unrouted answer ≡ Err (unrouted_in_time fault)
-limited_err (Ok found) fault is = absurd cc
-limited_err (Err reason) fault is = ap (λ found. Err (fault_in found)) (sym is)
+  searches : refusal request ≡ None → IsSearched (found_or_unrouted (preferred_answer penalty limits edges request))
+  unfolding preferred_answer
+  searches is = rw is (searched_by (preferred_walk penalty limits edges request))
 
 module _ (attempt : AttemptParts) (known : Option (List ℕ)) (rows : Rows) where
+  abbrev edges : List PointEdge
+  edges = edges_for attempt known rows
+
+  abbrev penalty : PointEdge → ℕ → ℕ
+  penalty = penalty_at attempt.preferences attempt.known
+
   abbrev answer : Result (List Hop) RouteFault
-  answer = answer_in_time attempt.most_delay (edges_for attempt known rows) attempt.request
+  answer = answer_for attempt edges
 
-  -- with too many channels no route is searched for
-  pub too_many : MAX_CHANNELS < length rows.channels → route_over attempt known rows ≡ Err faults.Full
-  too_many many = rw (lt-ltb MAX_CHANNELS (length rows.channels) many) refl
+  -- with too many edges beside the map's no route is searched for
+  pub too_many_edges : 100000 < length attempt.overlay.extra → route_over attempt known rows ≡ Err faults.Argument
+  too_many_edges many = rw (lt-ltb 100000 (length attempt.overlay.extra) many) refl
 
-  -- with no more, a refusal is returned at once
-  module _ (few : length rows.channels ≤ MAX_CHANNELS) where
-    fits : nat_lt MAX_CHANNELS (length rows.channels) ≡ false
-    fits = le-ltb MAX_CHANNELS (length rows.channels) few
+  module _ (small : length attempt.overlay.extra ≤ 100000) where
+    is_small : nat_lt 100000 (length attempt.overlay.extra) ≡ false
+    is_small = le-ltb 100000 (length attempt.overlay.extra) small
 
-    pub refuses_at_once : (reason : RouteFault) → refusal attempt.request ≡ Some reason
-        → route_over attempt known rows ≡ Err (unrouted reason)
-    refuses_at_once reason is =
-        rw (fits, refused_at_once (edges_for attempt known rows) attempt.request reason is attempt.most_delay) refl
+    -- nor is one with too many channels
+    pub too_many : MAX_CHANNELS < length rows.channels → route_over attempt known rows ≡ Err faults.Full
+    too_many many = rw (is_small, lt-ltb MAX_CHANNELS (length rows.channels) many) refl
 
-    -- for any other request a route is searched for
-    module _ (lawful : refusal attempt.request ≡ None) where
-      pub is_to_search : IsSearched (route_over attempt known rows)
-      is_to_search = rw fits (searched (edges_for attempt known rows) attempt.request lawful attempt.most_delay)
+    -- with no more, a refusal is returned at once
+    module _ (few : length rows.channels ≤ MAX_CHANNELS) where
+      fits : route_over attempt known rows ≡ found_or_unrouted answer
+      fits = rw (is_small, le-ltb MAX_CHANNELS (length rows.channels) few) refl
 
-      -- a search that failed has no route, or ran out of memory or of labels
-      pub fails_in_search : (result : Result (List Hop) Fault) (fault : LimitedFault) (found : Result (List Hop) LimitedFault)
-          → found ≡ Err fault → IsFound attempt known rows found
-          → (found ≡ Err limited.Undecided → IsOverDelay attempt known rows)
-          → IsErrAnd result (λ f. f ≡ unrouted_in_time fault) → IsRouted attempt known rows result
-      fails_in_search (Ok hops) fault found was is beyond err = absurd err
-      fails_in_search (Err f) fault found was is beyond err =
-          elim is [
-            | inl none ↦ inl (inl (is_to_search, err ∙ ap fault_in (sym was ∙ none)))
-            | inr other ↦ elim other [
-              | inl undecided ↦ inr (is_to_search, beyond undecided, ap (λ g. Err g) (err ∙ ap fault_in (sym was ∙ undecided)))
-              | inr e ↦ inl (inr (rw fits (limited_err answer fault (sym was ∙ e) ∙ ap (λ g. Err g) (sym err))))
+      pub refuses_at_once : (reason : RouteFault) → refusal attempt.request ≡ Some reason
+          → route_over attempt known rows ≡ Err (unrouted reason)
+      refuses_at_once reason is =
+          fits ∙ ap found_or_unrouted (refused_at_once penalty attempt.limits edges attempt.request reason is)
+
+      -- for any other request a route is searched for
+      module _ (lawful : refusal attempt.request ≡ None) where
+        pub is_to_search : IsSearched (route_over attempt known rows)
+        is_to_search = subst IsSearched (sym fits) (searches penalty attempt.limits edges attempt.request lawful)
+
+        -- the route that was found
+        pub gives_found : (result : Result Found SearchFault) (found : Found) → result ≡ Ok found → IsFound attempt known rows result
+            → IsRouted attempt known rows (Ok found)
+        gives_found result found was given = either found.is_best refl
+          where
+            is : IsFound attempt known rows (Ok found)
+            is = subst (IsFound attempt known rows) was given
+
+            either : (best : Bool) → found.is_best ≡ best → IsRouted attempt known rows (Ok found)
+            either true best = inl (best, fits ∙ ap found_or_unrouted (sym (is.answer.0 best)))
+            either false not = inr (not, is_to_search, is.stops not, is.answer.1)
+
+        -- why there is none
+        fault_given : (fault : SearchFault) → IsFound attempt known rows (Err fault)
+            → IsRouted attempt known rows (Err (unfound fault))
+        fault_given searched.Undecided is = inr (inr (is_to_search, is.stops tt, refl))
+        fault_given (searched.Fault reason) is =
+            elim is.answer [
+              | inl none ↦ inr (inl (is_to_search, ap unrouted none))
+              | inr none ↦ inl (fits ∙ ap found_or_unrouted (sym none))
             ]
-          ]
 
-      -- and so did one that didn't get to it
-      pub short_of_memory : (result : Result (List Hop) Fault) → IsErrAnd result (λ fault. fault ≡ faults.NoMemory)
-          → IsRouted attempt known rows result
-      short_of_memory (Ok hops) err = absurd err
-      short_of_memory (Err fault) err = inl (inl (is_to_search, err))
+        pub gives_fault : (found : Result Found SearchFault) (fault : SearchFault) (result : Result Found Fault)
+            → found ≡ Err fault → IsFound attempt known rows found → IsErrAnd result (λ f. f ≡ unfound fault)
+            → IsRouted attempt known rows result
+        gives_fault found fault (Ok other) was is err = absurd err
+        gives_fault found fault (Err f) was is err =
+            subst (λ f. IsRouted attempt known rows (Err f)) (sym err)
+            (fault_given fault (subst (IsFound attempt known rows) was is))
 
--- over the map alone, at any delay, the answer is that of the map's edges
-pub plain_answer : IsNeutral → (attempt : AttemptParts) (known : Option (List ℕ)) (rows : Rows)
-    → attempt.overlay ≡ no_overlay → attempt.most_delay ≡ ANY_DELAY
-    → answer_in_time attempt.most_delay (edges_for attempt known rows) attempt.request
-    ≡ answer_of (edges_of known rows) attempt.request
-plain_answer neutral attempt known rows nothing any =
-    rw (any, nothing) (ap (λ edges. answer_of edges attempt.request) (neutral known rows))
+        -- and so did one that didn't get to it
+        pub short_of_memory : (result : Result Found Fault) → IsErrAnd result (λ fault. fault ≡ faults.NoMemory)
+            → IsRouted attempt known rows result
+        short_of_memory (Ok found) err = absurd err
+        short_of_memory (Err fault) err = inr (inl (is_to_search, err))
+
+-- ---- over the map alone
+
+-- the walk that sends least of all is within no limits
+never_beyond : (all : List PointEdge) (request : Request) → IsBeyond no_limits all request → ⊥
+never_beyond all request (walk, least, beyond) = beyond (record { short = least.usable.few; in_time = tt })
+
+module _ (payment : LgmPayment) (known : Option (List ℕ)) (rows : Rows) where
+  abbrev plain : AttemptParts
+  plain = plain_attempt payment
+
+  -- the search never stops
+  pub never_stops : MayStop plain known rows → ⊥
+  never_stops stops =
+      never_beyond (edges_for plain known rows) plain.request (stops.beyond (record { preferences = refl; known = refl }))
+
+  -- its answer is that of the map's edges
+  pub is_asked : NothingPreferred → IsNeutral → AreKeyed (edges_for plain known rows)
+      → route_over plain known rows ≡ route_asked payment known rows
+  is_asked nothing neutral keyed =
+      ap (routed_in rows) (nothing (edges_for plain known rows) plain.request keyed
+      ∙ ap (λ all. answer_of all plain.request) (neutral known rows))

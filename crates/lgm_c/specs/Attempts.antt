@@ -1,27 +1,30 @@
--- A payment over what its payer knows beside the map, within a delay: what C says of it, and what is asked.
-use Rattle.std.specs.Prelude.{◌≡◌, ◌≢◌, ◌⊎◌, ℕ, nat_eq, nat_lt, if◌then◌else◌, List, map, length, Option, None, Some}
-use Rattle.std.specs.Prelude.{Result, Err}
+-- A payment over what its payer knows and prefers, within limits: what C says of it, and what is asked.
+use Rattle.std.specs.Prelude.{◌≡◌, ℕ, nat_eq, nat_lt, if◌then◌else◌, List, [], map, length, Option, None, Some}
+use Rattle.std.specs.Prelude.{Result, Ok, Err}
 use Rattle.lgm_wire.specs.declared.point.Point.{Point}
 use Rattle.lgm_store.specs.Rows.{Rows}
 use Rattle.lgm_graph.specs.Edges.{PointEdge}
-use Rattle.lgm_graph.specs.Overlay.{OverlayParts, extra_edge, overlaid_edges}
+use Rattle.lgm_graph.specs.Overlay.{OverlayParts, extra_edge, no_overlay, overlaid_edges}
 use Rattle.lgm_graph.specs.declared.overlay.ExtraEdge.{ExtraEdge}
 use Rattle.lgm_graph.specs.declared.overlay.Limit.{Limit}
 use Rattle.lgm_graph.specs.declared.route.Hop.{Hop}
-use Rattle.lgm_route.specs.Choice.{answer_of}
-use Rattle.lgm_route.specs.Within.{answer_within_of, IsBeyond}
+use Rattle.lgm_graph.specs.Estimates.{Entries}
+use Rattle.lgm_route.specs.Preferred.{penalty_at, preferred_answer, no_preferences, no_limits, IsSomeRoute, IsBeyond, IsBounded}
 use Rattle.lgm_route.specs.declared.fault.RouteFault.{RouteFault}
+use Rattle.lgm_route.specs.declared.limits.RouteLimits.{RouteLimits}
+use Rattle.lgm_route.specs.declared.limits.SearchBudget.{SearchBudget}
+use Rattle.lgm_route.specs.declared.preferences.Preferences.{Preferences}
 use Rattle.lgm_route.specs.declared.request.Request.{Request}
 use Rattle.lgm_c.specs.declared.attempt.LgmEdge.{LgmEdge}
 use Rattle.lgm_c.specs.declared.attempt.LgmLimit.{LgmLimit}
 use Rattle.lgm_c.specs.declared.attempt.LgmPoint.{LgmPoint}
-use Rattle.lgm_c.specs.declared.attempt.TheConstants.{ANY_DELAY, MOST_EDGES}
+use Rattle.lgm_c.specs.declared.attempt.LgmSearch.{LgmSearch}
 use Rattle.lgm_c.specs.declared.routes.LgmPayment.{LgmPayment}
 use Rattle.lgm_c.specs.declared.fault.Fault.{Fault}
 use Rattle.lgm_c.specs.declared.fault.Fault.TheVariants as faults
 use Rattle.lgm_c.specs.MapState.{MapState}
-use Rattle.lgm_c.specs.Routing.{request_of, routed_in, IsSearched, Buffers, WritesRoute}
-use Rattle.lgm_c.specs.Status.{number_of, if_open}
+use Rattle.lgm_c.specs.Routing.{request_of, routed_in, Buffers, WritesSoFar}
+use Rattle.lgm_c.specs.Status.{number_of}
 
 -- ---- what C says of a payer
 
@@ -51,54 +54,109 @@ overlay_given edges limits silent = record {
   silent = map point_given silent;
 }
 
+-- a number, or one that stands for 0
+abbrev pub or_default : ℕ → ℕ → ℕ
+or_default default number = if nat_eq number 0 then default else number
+
+abbrev pub preferences_given : LgmSearch → Preferences
+preferences_given search = record { failure_msat = search.failure_msat; hop_msat = search.hop_msat }
+
+-- 0 blocks are any delay, and 0 hops any number
+abbrev pub limits_given : LgmSearch → RouteLimits
+limits_given search = record {
+  most_delay = if nat_eq search.most_delay 0 then None else Some search.most_delay;
+  most_hops = or_default 20 search.most_hops;
+}
+
+-- 0 labels are a million, and 0 steps twenty million
+abbrev pub budget_given : LgmSearch → SearchBudget
+budget_given search = record {
+  most_labels = or_default 1000000 search.most_labels;
+  most_steps = or_default 20000000 search.most_steps;
+}
+
+-- all zeros
+abbrev pub plain_search : LgmSearch
+plain_search = record {
+  most_steps = 0;
+  most_labels = 0;
+  failure_msat = 0;
+  hop_msat = 0;
+  most_delay = 0;
+  most_hops = 0;
+}
+
 -- ---- what is asked
 
--- a payment, what its payer knows beside the map, and the most delay
+-- a payment, what its payer knows beside the map, prefers and believes of edges, and the limits of its route and of the
+-- search for it
 pub record AttemptParts : Type 0 where
   pub request : Request
   pub overlay : OverlayParts
-  -- in blocks, or `ANY_DELAY`
-  pub most_delay : ℕ
+  pub known : Entries
+  pub preferences : Preferences
+  pub limits : RouteLimits
+  pub budget : SearchBudget
 
-abbrev pub attempt_given : LgmPayment → OverlayParts → ℕ → AttemptParts
-attempt_given payment overlay most_delay =
-    record { request = request_of payment; overlay = overlay; most_delay = most_delay }
+abbrev pub attempt_given : LgmPayment → OverlayParts → Entries → LgmSearch → AttemptParts
+attempt_given payment overlay known search = record {
+  request = request_of payment;
+  overlay = overlay;
+  known = known;
+  preferences = preferences_given search;
+  limits = limits_given search;
+  budget = budget_given search;
+}
+
+-- a payment over the map alone
+abbrev pub plain_attempt : LgmPayment → AttemptParts
+plain_attempt payment = attempt_given payment no_overlay [] plain_search
+
+-- a payer that prefers nothing and believes nothing of any edge
+pub record PrefersNothing (attempt : AttemptParts) : Type 0 where
+  pub preferences : attempt.preferences ≡ no_preferences
+  pub known : attempt.known ≡ []
 
 -- the edges that it may take
 abbrev pub edges_for : AttemptParts → Option (List ℕ) → Rows → List PointEdge
 edges_for attempt known rows = overlaid_edges known rows attempt.overlay
 
--- the best of all walks, or of those within the delay
-abbrev pub answer_in_time : ℕ → List PointEdge → Request → Result (List Hop) RouteFault
-answer_in_time most_delay edges request =
-    if nat_eq most_delay ANY_DELAY then answer_of edges request else answer_within_of most_delay edges request
+-- the best of the walks within the limits
+abbrev pub answer_for : AttemptParts → List PointEdge → Result (List Hop) RouteFault
+answer_for attempt edges =
+    preferred_answer (penalty_at attempt.preferences attempt.known) attempt.limits edges attempt.request
 
--- the hops of the best walk over the edges for an attempt, or why there is none; `Full` with too many channels
+-- its hops over the edges for an attempt, or why there is none; `Argument` with more edges than C may pass, and `Full` with
+-- too many channels
 abbrev pub route_over : AttemptParts → Option (List ℕ) → Rows → Result (List Hop) Fault
 route_over attempt known rows =
-    routed_in rows (answer_in_time attempt.most_delay (edges_for attempt known rows) attempt.request)
+    if nat_lt 100000 (length attempt.overlay.extra) then Err faults.Argument
+    else routed_in rows (answer_for attempt (edges_for attempt known rows))
 
--- the best route of all is beyond the delay
-pub record IsOverDelay (attempt : AttemptParts) (known : Option (List ℕ)) (rows : Rows) : Type 0 where
-  pub limited : attempt.most_delay ≢ ANY_DELAY
-  pub beyond : IsBeyond attempt.most_delay (edges_for attempt known rows) attempt.request
+-- the search may stop before it found the best walk. Without preferences this takes a limit that excludes the one that
+-- sends least of all
+pub record MayStop (attempt : AttemptParts) (known : Option (List ℕ)) (rows : Rows) : Type 0 where
+  pub bounded : IsBounded attempt.budget
+  pub beyond : PrefersNothing attempt → IsBeyond attempt.limits (edges_for attempt known rows) attempt.request
+
+-- the hops of some usable walk within the limits
+abbrev pub IsRouteFor : AttemptParts → Option (List ℕ) → Rows → List Hop → Type 0
+IsRouteFor attempt known rows hops = IsSomeRoute attempt.limits (edges_for attempt known rows) attempt.request hops
 
 -- ---- what a call does
 
--- the route in the map of a handle; `Argument` with more edges than C may pass
-abbrev pub route_tried : AttemptParts → MapState → Result (List Hop) Fault
-route_tried attempt state =
-    if nat_lt MOST_EDGES (length attempt.overlay.extra) then Err faults.Argument
-    else route_over attempt state.known state.rows
+-- the route was written with its payloads, or its fault was returned. Or the search stopped: then the best route so far was
+-- written, or there was none
+abbrev pub WritesTried : AttemptParts → Option (List ℕ) → Rows → List ℕ → ℕ → Buffers → Buffers → Type 0
+WritesTried attempt known rows =
+    WritesSoFar (route_over attempt known rows) (MayStop attempt known rows) (IsRouteFor attempt known rows)
 
--- the search within a delay may run out of labels: a route is searched for, and the best of all is beyond the delay
-abbrev pub MayBeUndecided : AttemptParts → Option MapState → Type 0
-MayBeUndecided attempt None = ⊥
-MayBeUndecided attempt (Some state) =
-    IsSearched (route_tried attempt state) × IsOverDelay attempt state.known state.rows
-
--- a route was written with its payloads, or the fault was returned; or the search ran out of labels
+-- so it was in the map of a handle
 abbrev pub WritesAttempt : AttemptParts → Option MapState → List ℕ → ℕ → Buffers → Buffers → Type 0
-WritesAttempt attempt handle secret status old new =
-    WritesRoute (if_open handle (route_tried attempt)) secret status old new
-    ⊎ (MayBeUndecided attempt handle × (status ≡ number_of faults.Undecided) × (new ≡ old))
+WritesAttempt attempt None secret status old new = (status ≡ number_of faults.Closed) × (new ≡ old)
+WritesAttempt attempt (Some state) secret status old new = WritesTried attempt state.known state.rows secret status old new
+
+-- what a closed handle of estimates has: nothing is known of any edge
+abbrev pub entries_of : Option Entries → Entries
+entries_of None = []
+entries_of (Some entries) = entries

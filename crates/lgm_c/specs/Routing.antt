@@ -1,5 +1,5 @@
 -- The route of a payment, as C gets it.
-use Rattle.std.specs.Prelude.{◌≡◌, ◌⊎◌, ℕ, ◌<◌, nat_lt, List, map, length, Option, Result, Ok, Err, if◌then◌else◌}
+use Rattle.std.specs.Prelude.{◌≡◌, ◌⊎◌, ℕ, ◌<◌, nat_lt, Bool, true, false, List, map, length, Option, Result, Ok, Err, if◌then◌else◌}
 use Rattle.std.specs.List.{flat_map, zip}
 use Rattle.lgm_store.specs.Rows.{Rows}
 use Rattle.lgm_graph.specs.declared.view.TheConstants.{MAX_CHANNELS}
@@ -77,23 +77,48 @@ buffers hops payloads lengths = record { hops = hops; payloads = payloads; lengt
 abbrev pub lengths_of : List LgmHop → List ℕ → LgmLengths
 lengths_of hops payloads = record { hops = length hops; payloads = length payloads }
 
--- hops and payloads were written, or only their lengths if a buffer is too short
-abbrev pub IsRouteWritten : List LgmHop → List ℕ → ℕ → Buffers → Buffers → Type 0
-IsRouteWritten hops payloads status old new =
+-- the number for a route that was written: 27 if it may not be the best one
+abbrev pub number_written : Bool → ℕ
+number_written true = 0
+number_written false = 27
+
+-- what a call returns that writes a route
+abbrev pub status_as : {A : Type 0} → ℕ → Result A Fault → ℕ
+status_as number (Ok answer) = number
+status_as number (Err fault) = number_of fault
+
+-- hops and payloads were written, and this number returned, or only their lengths if a buffer is too short
+abbrev pub AreWritten : ℕ → List LgmHop → List ℕ → ℕ → Buffers → Buffers → Type 0
+AreWritten number hops payloads status old new =
     (new.lengths ≡ lengths_of hops payloads)
-    × (((status ≡ 0) × (new.hops ≡ in_front hops old.hops) × (new.payloads ≡ in_front payloads old.payloads))
+    × (((status ≡ number) × (new.hops ≡ in_front hops old.hops) × (new.payloads ≡ in_front payloads old.payloads))
     ⊎ ((status ≡ number_of faults.Room)
     × ((length old.hops < length hops) ⊎ (length old.payloads < length payloads))
     × (new.hops ≡ old.hops) × (new.payloads ≡ old.payloads)))
 
+-- so were those of a route
+abbrev pub IsRouteWritten : ℕ → List Hop → List ℕ → ℕ → Buffers → Buffers → Type 0
+IsRouteWritten number hops secret status old new =
+    AreWritten number (c_hops hops (payloads_of secret hops)) (all_payloads (payloads_of secret hops)) status old new
+
+-- the same, or out of memory
+abbrev pub WritesHops : ℕ → List Hop → List ℕ → ℕ → Buffers → Buffers → Type 0
+WritesHops number hops secret status old new =
+    IsRouteWritten number hops secret status old new ⊎ ((status ≡ no_memory) × (new ≡ old))
+
 -- a route was written with its payloads, or the fault was returned
 abbrev pub WritesFound : Result (List Hop) Fault → List ℕ → ℕ → Buffers → Buffers → Type 0
-WritesFound (Ok hops) secret status old new =
-    IsRouteWritten (c_hops hops (payloads_of secret hops)) (all_payloads (payloads_of secret hops))
-    status old new
+WritesFound (Ok hops) secret status old new = IsRouteWritten (number_written true) hops secret status old new
 WritesFound (Err fault) secret status old new = (status ≡ number_of fault) × (new ≡ old)
 
 -- the same, or out of memory; a fault that takes no search is returned even if memory is short
 abbrev pub WritesRoute : Result (List Hop) Fault → List ℕ → ℕ → Buffers → Buffers → Type 0
 WritesRoute answer secret status old new =
     WritesFound answer secret status old new ⊎ (IsSearched answer × (status ≡ no_memory) × (new ≡ old))
+
+-- the same, or the search stopped, where it may: then a route that may not be the best one was written, or there was none
+abbrev pub WritesSoFar : Result (List Hop) Fault → Type 0 → (List Hop → Type 0) → List ℕ → ℕ → Buffers → Buffers → Type 0
+WritesSoFar answer stops is_route secret status old new =
+    WritesRoute answer secret status old new
+    ⊎ (IsSearched answer × stops × (((status ≡ number_of faults.Undecided) × (new ≡ old))
+    ⊎ ((hops : List Hop) × is_route hops × IsRouteWritten (number_written false) hops secret status old new)))

@@ -5,8 +5,8 @@ use Rattle.lgm_check.specs.declared.refusal.Refusal.{Refusal}
 use Rattle.lgm_check.specs.declared.refusal.Refusal.TheVariants as refusals
 use Rattle.lgm_route.specs.declared.fault.RouteFault.{RouteFault}
 use Rattle.lgm_route.specs.declared.fault.RouteFault.TheVariants as reasons
-use Rattle.lgm_route.specs.declared.within.LimitedFault.{LimitedFault}
-use Rattle.lgm_route.specs.declared.within.LimitedFault.TheVariants as limited
+use Rattle.lgm_route.specs.declared.found.SearchFault.{SearchFault}
+use Rattle.lgm_route.specs.declared.found.SearchFault.TheVariants as searched
 use Rattle.lgm_c.specs.declared.fault.Fault.{Fault}
 use Rattle.lgm_c.specs.declared.fault.Fault.TheVariants as faults
 
@@ -51,10 +51,10 @@ abbrev pub unrouted : RouteFault → Fault
 unrouted reasons.NoMemory = faults.NoMemory
 unrouted reason = faults.Unrouted reason
 
--- the same of a search within a delay
-abbrev pub unrouted_in_time : LimitedFault → Fault
-unrouted_in_time (limited.Fault reason) = unrouted reason
-unrouted_in_time limited.Undecided = faults.Undecided
+-- the same of a search within a budget
+abbrev pub unfound : SearchFault → Fault
+unfound (searched.Fault reason) = unrouted reason
+unfound searched.Undecided = faults.Undecided
 
 -- whether a call may run out of memory: one that succeeds may, one that returns a fault only if finding it allocates
 abbrev pub MayRunOut : {A E : Type 0} → Type 0 → Result A E → Type 0

@@ -41,6 +41,7 @@ abbrev pub word_of_call : ℕ → List ℕ
 word_of_call number =
     if number == 0 then codes "accepted"
     else if number == 26 then codes "undecided"
+    else if number == 27 then codes "so-far"
     else if number == 31 then codes "not-query"
     else if number == 32 then codes "not-filter"
     else if number == 33 then codes "not-announced"

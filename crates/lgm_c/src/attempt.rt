@@ -1,22 +1,24 @@
-//! What a payer knows beside the map, as C says it, and payments over it within a delay.
+//! What a payer knows beside the map and prefers, as C says it, and payments over it within limits.
 
-ghost use Rattle.std.specs.Prelude.{◌≡◌, ◌<◌, ◌≤◌, [], true, map, length, IfOk, IfErr, OnOk};
-ghost use Rattle.lgm_graph.specs.Overlay.{no_overlay};
-ghost use Rattle.lgm_c.specs.Attempts.{extra_given, limit_given, point_given, overlay_given, attempt_given};
+ghost use Rattle.std.specs.Prelude.{◌≡◌, [], map, length, IfOk};
+ghost use Rattle.lgm_c.specs.Attempts.{extra_given, limit_given, point_given, overlay_given, attempt_given, plain_attempt};
+ghost use Rattle.lgm_c.specs.Attempts.{preferences_given, limits_given, budget_given, plain_search};
 
-use crate::fault::Fault;
 use crate::routes::{LgmPayment, request_of};
 use lgm_gossip::{Point, Scid};
-use lgm_graph::{ExtraEdge, Limit, Overlay};
-use lgm_route::Request;
+use lgm_graph::{Estimates, ExtraEdge, Limit, Overlay};
+use lgm_route::{Preferences, Request, RouteLimits, SearchBudget};
 use std::alloc::{AllocError, Global};
 use std::marker::Model;
 
-/// The delay of a route that may have any.
-pub(crate) const ANY_DELAY: u16 = 65_535;
-
 /// The most edges beside the map's of one call, so that a view numbers their nodes behind those of any map.
 pub(crate) const MOST_EDGES: usize = 100_000;
+
+/// The most steps of a search for which none are given: some 0.2 seconds.
+pub(crate) const MOST_STEPS: u64 = 20_000_000;
+
+/// The most labels of such a search: some 50 MB.
+pub(crate) const MOST_LABELS: usize = 1_000_000;
 
 /// An edge beside the map's: a channel of the payer's, or a hint of an invoice (BOLT 11, `r`).
 #[repr(C)]
@@ -58,6 +60,68 @@ pub struct LgmLimit {
 pub struct LgmPoint {
     /// Its compressed public key.
     pub point: [u8; 33],
+}
+
+/// What a payer prefers, and limits of its route and of the search for it. All zeros prefer nothing, and limit nothing but
+/// the search.
+#[repr(C)]
+#[derive(Clone, Copy)]
+pub struct LgmSearch {
+    /// The most steps: edges looked at, and labels compared. 0 stands for 20,000,000.
+    pub most_steps: u64,
+    /// The most labels. 0 stands for 1,000,000.
+    pub most_labels: usize,
+    /// What a failed try is worth to the payer, in msat.
+    pub failure_msat: u32,
+    /// What each hop is, in msat.
+    pub hop_msat: u32,
+    /// The most delay, in blocks: that of all channels but the first. 0 stands for any.
+    pub most_delay: u16,
+    /// The most channels, up to 20. 0 stands for 20.
+    pub most_hops: u8,
+}
+
+impl LgmSearch {
+    /// All zeros.
+    fn plain() -> LgmSearch
+        ensures { result ≡ plain_search }
+    {
+        LgmSearch {
+            most_steps: 0,
+            most_labels: 0,
+            failure_msat: 0,
+            hop_msat: 0,
+            most_delay: 0,
+            most_hops: 0,
+        }
+    }
+
+    fn preferences(&self) -> Preferences
+        ensures { result ≡ preferences_given self.now }
+    {
+        Preferences {
+            failure_msat: self.failure_msat,
+            hop_msat: self.hop_msat,
+        }
+    }
+
+    fn limits(&self) -> RouteLimits
+        ensures { result ≡ limits_given self.now }
+    {
+        RouteLimits {
+            most_delay: if self.most_delay == 0 { None } else { Some(self.most_delay) },
+            most_hops: if self.most_hops == 0 { 20 } else { self.most_hops },
+        }
+    }
+
+    fn budget(&self) -> SearchBudget
+        ensures { result ≡ budget_given self.now }
+    {
+        SearchBudget {
+            most_labels: if self.most_labels == 0 { MOST_LABELS } else { self.most_labels },
+            most_steps: if self.most_steps == 0 { MOST_STEPS } else { self.most_steps },
+        }
+    }
 }
 
 fn extra_edge(edge: &LgmEdge) -> ExtraEdge
@@ -120,70 +184,61 @@ fn with_silent(overlay: Overlay, silent: &[LgmPoint]) -> Result<Overlay, AllocEr
     Ok(silenced)
 }
 
-/// A payment over what its payer knows beside the map, within a delay. Contracts see the request, the overlay and the most
-/// delay.
+/// A payment over what its payer knows and prefers, within limits. Contracts see the request, the overlay, what is known of
+/// edges, the preferences, the limits and the budget.
 #[derive(Drop)]
 pub struct Attempt<'a> {
     request: Request,
     edges: &'a [LgmEdge],
     limits: &'a [LgmLimit],
     silent: &'a [LgmPoint],
-    most_delay: u16,
+    estimates: &'a Estimates,
+    search: LgmSearch,
 }
 
 impl<'a> Model for Attempt<'a> {
-    ghost use Rattle.std.specs.Prelude.{◌≤◌, length};
-    ghost use Rattle.lgm_c.specs.Attempts.{AttemptParts, overlay_given};
-    ghost use Rattle.lgm_c.specs.declared.attempt.TheConstants.{MOST_EDGES};
+    ghost use Rattle.lgm_c.specs.Attempts.{AttemptParts, overlay_given, preferences_given, limits_given, budget_given};
 
     ghost Value = { AttemptParts };
 
     ghost view = { λ a. record {
       request = a.request;
       overlay = overlay_given a.edges.now a.limits.now a.silent.now;
-      most_delay = a.most_delay;
+      known = a.estimates.now;
+      preferences = preferences_given a.search;
+      limits = limits_given a.search;
+      budget = budget_given a.search;
     } };
-
-    ghost invariant = { λ a. length a.edges.now ≤ MOST_EDGES };
 }
 
 impl<'a> Attempt<'a> {
-    /// A payment over the map alone, at any delay.
-    pub(crate) fn plain(payment: &LgmPayment) -> Attempt<'a>
-        ensures { result ≡ attempt_given payment.now no_overlay ANY_DELAY }
+    /// A payment over the map alone, of a payer that knows nothing and prefers nothing.
+    pub(crate) fn plain(payment: &LgmPayment, nothing: &'a Estimates) -> Attempt<'a>
+        requires { nothing.now ≡ [] }
+        ensures { result ≡ plain_attempt payment.now }
     {
-        Attempt {
-            request: request_of(payment),
-            edges: &[],
-            limits: &[],
-            silent: &[],
-            most_delay: ANY_DELAY,
-        }
+        Attempt::of(payment, &[], &[], &[], nothing, &LgmSearch::plain())
     }
 
-    /// A payment over this, unless there are too many edges.
+    /// A payment over this.
     pub(crate) fn of(
         payment: &LgmPayment,
         edges: &'a [LgmEdge],
         limits: &'a [LgmLimit],
         silent: &'a [LgmPoint],
-        most_delay: u16,
-    ) -> Result<Attempt<'a>, Fault>
-        ensures attempt { IfOk result (λ attempt. attempt
-            ≡ attempt_given payment.now (overlay_given edges.now limits.now silent.now) most_delay) }
-        ensures few { OnOk result (length edges.now ≤ MOST_EDGES) }
-        ensures refused { IfErr result (λ fault. (fault ≡ Fault.Argument) × (MOST_EDGES < length edges.now)) }
+        estimates: &'a Estimates,
+        search: &LgmSearch,
+    ) -> Attempt<'a>
+        ensures { result ≡ attempt_given payment.now (overlay_given edges.now limits.now silent.now) estimates.now search.now }
     {
-        if MOST_EDGES < edges.len() {
-            return Err(Fault::Argument);
-        }
-        Ok(Attempt {
+        Attempt {
             request: request_of(payment),
             edges,
             limits,
             silent,
-            most_delay,
-        })
+            estimates,
+            search: *search,
+        }
     }
 
     /// The payment.
@@ -193,28 +248,44 @@ impl<'a> Attempt<'a> {
         &self.request
     }
 
-    /// The most delay, in blocks, or `ANY_DELAY`.
-    pub(crate) fn most_delay(&self) -> u16
-        ensures { result ≡ self.now.most_delay }
+    /// What the payer believes of edges.
+    pub(crate) fn estimates(&self) -> &Estimates
+        ensures { result.now ≡ self.now.known }
     {
-        self.most_delay
+        self.estimates
     }
 
-    /// Whether it is over the map alone, at any delay.
-    pub(crate) fn is_plain(&self) -> bool
-        ensures overlay { result ≡ true → self.now.overlay ≡ no_overlay }
-        ensures delay { result ≡ true → self.now.most_delay ≡ ANY_DELAY }
+    /// What it prefers.
+    pub(crate) fn preferences(&self) -> Preferences
+        ensures { result ≡ self.now.preferences }
     {
-        self.most_delay == ANY_DELAY
-            && self.edges.is_empty()
-            && self.limits.is_empty()
-            && self.silent.is_empty()
+        self.search.preferences()
+    }
+
+    /// The limits of its route.
+    pub(crate) fn limits(&self) -> RouteLimits
+        ensures { result ≡ self.now.limits }
+    {
+        self.search.limits()
+    }
+
+    /// What may be spent on the search for it.
+    pub(crate) fn budget(&self) -> SearchBudget
+        ensures { result ≡ self.now.budget }
+    {
+        self.search.budget()
+    }
+
+    /// The number of edges beside the map's.
+    pub(crate) fn extra_edges(&self) -> usize
+        ensures { result ≡ length self.now.overlay.extra }
+    {
+        self.edges.len()
     }
 
     /// What is known beside the map. The only error is out of memory.
     pub(crate) fn overlay(&self, alloc: Global) -> Result<Overlay, AllocError>
-        ensures overlay { IfOk result (λ overlay. overlay ≡ self.now.overlay) }
-        ensures few { IfOk result (λ overlay. length overlay.extra ≤ MOST_EDGES) }
+        ensures { IfOk result (λ overlay. overlay ≡ self.now.overlay) }
     {
         let overlay = overlay_of_edges(alloc, self.edges)?;
         let overlay = with_limits(overlay, self.limits)?;

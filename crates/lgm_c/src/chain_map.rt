@@ -20,7 +20,7 @@ use lgm_check::Evidence;
 use lgm_gossip::{ChainHash, Point, Scid};
 use lgm_graph::{Known, Network};
 use lgm_query::Filter;
-use lgm_route::Route;
+use lgm_route::Found;
 use lgm_store::{Map, Seed};
 use std::alloc::{AllocError, Global};
 use std::marker::Model;
@@ -149,7 +149,7 @@ impl ChainMap {
     }
 
     /// The best route for an attempt. In a map that changes, the first search builds the view.
-    pub(crate) fn route(&mut self, alloc: Global, attempt: &Attempt<'_>) -> Result<Route, Fault>
+    pub(crate) fn route(&mut self, alloc: Global, attempt: &Attempt<'_>) -> Result<Found, Fault>
         ensures same { self.new ≡ self.old }
         ensures route { IsRouted attempt.now self.old.known self.old.rows result }
     {

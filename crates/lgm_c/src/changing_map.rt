@@ -24,7 +24,7 @@ use lgm_check::{Evidence, Refusal};
 use lgm_gossip::{ChainHash, Point, Scid};
 use lgm_graph::Network;
 use lgm_query::Filter;
-use lgm_route::Route;
+use lgm_route::Found;
 use lgm_store::{Map, Op};
 use std::alloc::{AllocError, Global};
 use std::marker::Model;
@@ -156,7 +156,7 @@ impl ChangingMap {
     }
 
     /// The best route for an attempt. The first search builds the view.
-    pub(crate) fn route(&mut self, alloc: Global, attempt: &Attempt<'_>) -> Result<Route, Fault>
+    pub(crate) fn route(&mut self, alloc: Global, attempt: &Attempt<'_>) -> Result<Found, Fault>
         ensures same { self.new ≡ self.old }
         ensures route { IsRouted attempt.now self.old.current.known self.old.current.rows result }
     {

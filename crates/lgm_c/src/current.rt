@@ -16,7 +16,7 @@ use crate::verdict::offer;
 use lgm_check::{Evidence, Refusal};
 use lgm_gossip::ChainHash;
 use lgm_graph::Network;
-use lgm_route::Route;
+use lgm_route::Found;
 use lgm_store::{Map, Op};
 use std::alloc::{AllocError, Global};
 use std::marker::Model;
@@ -104,7 +104,7 @@ impl Current {
     }
 
     /// The best route for an attempt. The first search builds the view.
-    pub(crate) fn route(&mut self, alloc: Global, attempt: &Attempt<'_>) -> Result<Route, Fault>
+    pub(crate) fn route(&mut self, alloc: Global, attempt: &Attempt<'_>) -> Result<Found, Fault>
         ensures same { self.new ≡ self.old }
         ensures route { IsRouted attempt.now self.old.known self.old.rows result }
     {

@@ -8,7 +8,7 @@ use crate::attempt::Attempt;
 use crate::fault::Fault;
 use crate::search::{is_searched, search};
 use lgm_graph::{MAX_CHANNELS, Network};
-use lgm_route::Route;
+use lgm_route::Found;
 use lgm_store::Map;
 use std::alloc::{AllocError, Global};
 use std::marker::Model;
@@ -76,7 +76,7 @@ impl Edition {
     }
 
     /// The best route for an attempt.
-    pub(crate) fn route(&self, alloc: Global, attempt: &Attempt<'_>) -> Result<Route, Fault>
+    pub(crate) fn route(&self, alloc: Global, attempt: &Attempt<'_>) -> Result<Found, Fault>
         ensures { IsRouted attempt.now self.now.known self.now.rows result }
     {
         is_searched(self.map(), attempt)?;

@@ -2,12 +2,12 @@
 
 ghost use Rattle.std.specs.Prelude.{◌≡◌};
 ghost use Rattle.lgm_c.specs.Asking.{fault_of};
-ghost use Rattle.lgm_c.specs.Status.{number_of, status_of, refused, unrouted, unrouted_in_time};
+ghost use Rattle.lgm_c.specs.Status.{number_of, status_of, refused, unrouted, unfound};
 ghost use Rattle.lgm_c.specs.declared.fault.Fault.TheVariants.{NoMemory};
 
 use lgm_check::Refusal;
 use lgm_query::RequestFault;
-use lgm_route::{LimitedFault, RouteFault};
+use lgm_route::{RouteFault, SearchFault};
 use std::alloc::AllocError;
 
 /// Why a call failed. It left the map unchanged, and the buffers that it was to write to but for what comes with
@@ -18,7 +18,7 @@ pub(crate) enum Fault {
     Refused(Refusal),
     /// 21 to 25: a payment has no route.
     Unrouted(RouteFault),
-    /// 26: the search for a route within a delay made as many labels as it may.
+    /// 26: the search for a route took as many steps, or made as many labels, as it may, and found none so far.
     Undecided,
     /// 31: the message isn't a query.
     NotQuery,
@@ -128,13 +128,13 @@ impl From<RouteFault> for Fault {
     }
 }
 
-impl From<LimitedFault> for Fault {
-    ghost from_gives = { λ reason fault. fault ≡ unrouted_in_time reason };
+impl From<SearchFault> for Fault {
+    ghost from_gives = { λ reason fault. fault ≡ unfound reason };
 
-    fn from(reason: LimitedFault) -> Fault {
+    fn from(reason: SearchFault) -> Fault {
         match reason {
-            LimitedFault::Fault(reason) => Fault::from(reason),
-            LimitedFault::Undecided => Fault::Undecided,
+            SearchFault::Fault(reason) => Fault::from(reason),
+            SearchFault::Undecided => Fault::Undecided,
         }
     }
 }

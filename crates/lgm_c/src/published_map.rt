@@ -7,7 +7,7 @@ ghost use Rattle.lgm_c.specs.inner.Searching.{IsRouted};
 use crate::attempt::Attempt;
 use crate::edition::Edition;
 use crate::fault::Fault;
-use lgm_route::Route;
+use lgm_route::Found;
 use lgm_store::Map;
 use std::alloc::{AllocError, Global};
 use std::marker::Model;
@@ -47,7 +47,7 @@ impl PublishedMap {
     }
 
     /// The best route for an attempt.
-    pub(crate) fn route(&self, alloc: Global, attempt: &Attempt<'_>) -> Result<Route, Fault>
+    pub(crate) fn route(&self, alloc: Global, attempt: &Attempt<'_>) -> Result<Found, Fault>
         ensures { IsRouted attempt.now self.now.known self.now.rows result }
     {
         self.edition.route(alloc, attempt)

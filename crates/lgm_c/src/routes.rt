@@ -1,25 +1,28 @@
 //! Routes of payments.
 
-ghost use Rattle.std.specs.Prelude.{◌≡◌, List, Result, Ok, IfOk, IfErr};
-ghost use Rattle.lgm_gossip.specs.Memory.{GivesIf};
+ghost use Rattle.std.specs.Prelude.{◌≡◌, ℕ, List, Option, IfOk};
+ghost use Rattle.lgm_store.specs.Rows.{Rows};
 ghost use Rattle.lgm_c.specs.Routing.{request_of, route_asked, c_hop, c_hops, all_payloads};
-ghost use Rattle.lgm_c.specs.Routing.{WritesRoute, IsRouteWritten, IsSearched, buffers};
-ghost use Rattle.lgm_c.specs.Attempts.{overlay_given, attempt_given, WritesAttempt};
-ghost use Rattle.lgm_c.specs.inner.Searching.{IsTried};
-ghost use Rattle.lgm_c.specs.declared.fault.Fault.{Fault as AFault};
-ghost use Rattle.lgm_graph.specs.declared.route.Hop.{Hop as AHop};
-ghost use Rattle.lgm_c.specs.Status.{if_open, number_of, status_of};
+ghost use Rattle.lgm_c.specs.Routing.{AreWritten, WritesHops, WritesRoute, buffers, number_written, status_as};
+ghost use Rattle.lgm_c.specs.Attempts.{AttemptParts, overlay_given, attempt_given, entries_of};
+ghost use Rattle.lgm_c.specs.Attempts.{WritesAttempt, WritesTried};
+ghost use Rattle.lgm_c.specs.inner.Searching.{IsRouted};
+ghost use Rattle.lgm_c.specs.Status.{if_open};
 
-use crate::attempt::{Attempt, LgmEdge, LgmLimit, LgmPoint};
+use crate::attempt::{Attempt, LgmEdge, LgmLimit, LgmPoint, LgmSearch};
 use crate::chain_map::ChainMap;
-use crate::fault::{Fault, status};
+use crate::estimates::LgmEstimates;
+use crate::fault::Fault;
 use crate::lgm_map::{LgmMap, with_state};
 use crate::output::copy_in_front;
 use lgm_gossip::{Bytes, Point};
-use lgm_graph::overlays_are_lawful;
+use lgm_graph::{Estimates, overlays_are_lawful};
 use lgm_payload::build;
-use lgm_route::{Hop, Request, Route};
+use lgm_route::{Found, Hop, Request, Route, nothing_preferred};
 use std::alloc::{AllocError, Global};
+
+/// What a call returns that wrote a route which may not be the best one.
+const SO_FAR: u32 = 27;
 
 /// A payment to be made.
 #[repr(C)]
@@ -121,7 +124,7 @@ fn write_hops(
     payloads: &mut [u8],
     lengths: &mut LgmLengths,
 ) -> Result<(), Fault>
-    ensures { IsRouteWritten found.now joined.now (status_of result)
+    ensures { (number : ℕ) → AreWritten number found.now joined.now (status_as number result)
         (buffers hops.old payloads.old lengths.old)
         (buffers hops.new payloads.new lengths.new) }
 {
@@ -146,7 +149,7 @@ fn write_route(
     payloads: &mut [u8],
     lengths: &mut LgmLengths,
 ) -> Result<(), Fault>
-    ensures { WritesRoute (Ok route.now) secret.now (status_of result)
+    ensures { (number : ℕ) → WritesHops number route.now secret.now (status_as number result)
         (buffers hops.old payloads.old lengths.old)
         (buffers hops.new payloads.new lengths.new) }
 {
@@ -156,34 +159,78 @@ fn write_route(
     write_hops(&found, &joined, hops, payloads, lengths)
 }
 
-/// Writes the route that was found, with its payloads, or returns the fault.
+/// What a call returns that wrote a route, or failed to.
+fn route_status(is_best: bool, written: &Result<(), Fault>) -> u32
+    ensures { result ≡ status_as (number_written is_best) written.now }
+{
+    match written {
+        Ok(()) => if is_best { 0 } else { SO_FAR },
+        Err(fault) => fault.number(),
+    }
+}
+
+/// Writes the route that was found, with its payloads, or returns the fault's number.
 fn write_found(
     alloc: Global,
-    found: Result<Route, Fault>,
+    found: &Result<Found, Fault>,
     secret: &[u8; 32],
     hops: &mut [LgmHop],
     payloads: &mut [u8],
     lengths: &mut LgmLengths,
-) -> Result<(), Fault>
-    ensures found { (expected : Result (List AHop) AFault)
-        → GivesIf (IsSearched expected) Fault.NoMemory (λ route. route) found expected
-        → WritesRoute expected secret.now (status_of result)
+) -> u32
+    ensures { (attempt : AttemptParts) (known : Option (List ℕ)) (rows : Rows) → IsRouted attempt known rows found.now
+        → WritesTried attempt known rows secret.now result
         (buffers hops.old payloads.old lengths.old)
         (buffers hops.new payloads.new lengths.new) }
-    ensures fault { IfErr found (λ fault. (status_of result ≡ number_of fault) ×
-        (buffers hops.new payloads.new lengths.new ≡ buffers hops.old payloads.old lengths.old)) }
 {
-    write_route(alloc, &found?, secret, hops, payloads, lengths)
+    match found {
+        Ok(found) => {
+            let written = write_route(alloc, &found.route, secret, hops, payloads, lengths);
+            route_status(found.is_best, &written)
+        }
+        Err(fault) => fault.number(),
+    }
 }
 
-/// The best route of a payment over the map alone, at any delay.
-fn route(alloc: Global, state: &mut ChainMap, payment: &LgmPayment) -> Result<Route, Fault>
+/// Writes the best route for an attempt, or the best so far if the search stops.
+fn write_tried(
+    alloc: Global,
+    state: &mut ChainMap,
+    attempt: &Attempt<'_>,
+    secret: &[u8; 32],
+    hops: &mut [LgmHop],
+    payloads: &mut [u8],
+    lengths: &mut LgmLengths,
+) -> u32
     ensures same { state.new ≡ state.old }
-    ensures route { GivesIf (IsSearched (route_asked payment.now state.old.known state.old.rows)) Fault.NoMemory
-        (λ route. route) result (route_asked payment.now state.old.known state.old.rows) }
+    ensures route { WritesTried attempt.now state.old.known state.old.rows secret.now result
+        (buffers hops.old payloads.old lengths.old)
+        (buffers hops.new payloads.new lengths.new) }
+{
+    let found = state.route(alloc, attempt);
+    write_found(alloc, &found, secret, hops, payloads, lengths)
+}
+
+/// Writes the best route of a payment over the map alone: its search never stops before it is found.
+fn write_plain(
+    alloc: Global,
+    state: &mut ChainMap,
+    payment: &LgmPayment,
+    hops: &mut [LgmHop],
+    payloads: &mut [u8],
+    lengths: &mut LgmLengths,
+) -> u32
+    ensures same { state.new ≡ state.old }
+    ensures route { WritesRoute (route_asked payment.now state.old.known state.old.rows) payment.now.secret result
+        (buffers hops.old payloads.old lengths.old)
+        (buffers hops.new payloads.new lengths.new) }
 {
     overlays_are_lawful();
-    state.route(alloc, &Attempt::plain(payment))
+    nothing_preferred();
+    state.map().rows_are_lawful();
+    let nothing = Estimates::new(alloc);
+    let attempt = Attempt::plain(payment, &nothing);
+    write_tried(alloc, state, &attempt, &payment.secret, hops, payloads, lengths)
 }
 
 /// The route of a payment by which the payer sends the least: its hops, from the payer on, and their payloads one after
@@ -203,32 +250,38 @@ pub extern "C" fn lgm_route(
         (buffers hops.old payloads.old lengths.old)
         (buffers hops.new payloads.new lengths.new) }
 {
-    with_state!(alloc, map, |state| {
-        let found = route(alloc, &mut state, payment);
-        status(&write_found(alloc, found, &payment.secret, hops, payloads, lengths))
-    })
+    with_state!(
+        alloc,
+        map,
+        |state| write_plain(alloc, &mut state, payment, hops, payloads, lengths)
+    )
 }
 
-/// The best route of a payment over what its payer knows beside the map, within a delay.
-fn route_over(
+/// The same in the map of a handle.
+fn write_attempt(
     alloc: Global,
-    state: &mut ChainMap,
-    payment: &LgmPayment,
-    edges: &[LgmEdge],
-    limits: &[LgmLimit],
-    silent: &[LgmPoint],
-    most_delay: u16,
-) -> Result<Route, Fault>
-    ensures same { state.new ≡ state.old }
-    ensures route { IsTried (attempt_given payment.now (overlay_given edges.now limits.now silent.now) most_delay)
-        state.old result }
+    map: &mut LgmMap,
+    attempt: &Attempt<'_>,
+    secret: &[u8; 32],
+    hops: &mut [LgmHop],
+    payloads: &mut [u8],
+    lengths: &mut LgmLengths,
+) -> u32
+    ensures same { map.new.handle.value ≡ map.old.handle.value }
+    ensures route { WritesAttempt attempt.now map.old.handle.value secret.now result
+        (buffers hops.old payloads.old lengths.old)
+        (buffers hops.new payloads.new lengths.new) }
 {
-    let attempt = Attempt::of(payment, edges, limits, silent, most_delay)?;
-    state.route(alloc, &attempt)
+    with_state!(
+        alloc,
+        map,
+        |state| write_tried(alloc, &mut state, attempt, secret, hops, payloads, lengths)
+    )
 }
 
-/// The same as [`lgm_route`], over edges beside the map's, limits of what edges carry, and nodes whose edges in the map
-/// aren't used, among the routes whose delay is at most this many blocks, if it isn't `ANY_DELAY`.
+/// The best route of a payment by what its payer prefers and has learnt of edges, over edges beside the map's, limits of what
+/// edges carry, and nodes whose edges in the map aren't used, within limits of its delay and of its hops. If the search stops
+/// before it is found, the best route so far. A closed handle of estimates is one in which nothing is known.
 #[unsafe(no_mangle)]
 pub extern "C" fn lgm_route_over(
     alloc: Global,
@@ -237,22 +290,32 @@ pub extern "C" fn lgm_route_over(
     edges: &[LgmEdge],
     limits: &[LgmLimit],
     silent: &[LgmPoint],
-    most_delay: u16,
+    estimates: &mut LgmEstimates,
+    search: &LgmSearch,
     hops: &mut [LgmHop],
     payloads: &mut [u8],
     lengths: &mut LgmLengths,
 ) -> u32
     ensures same { map.new.handle.value ≡ map.old.handle.value }
+    ensures kept { estimates.new.handle.value ≡ estimates.old.handle.value }
     ensures route { WritesAttempt
-        (attempt_given payment.now (overlay_given edges.now limits.now silent.now) most_delay)
+        (attempt_given payment.now (overlay_given edges.now limits.now silent.now)
+        (entries_of estimates.old.handle.value) search.now)
         map.old.handle.value payment.now.secret result
         (buffers hops.old payloads.old lengths.old)
         (buffers hops.new payloads.new lengths.new) }
 {
-    with_state!(alloc, map, |state| {
-        let found = route_over(
-            alloc, &mut state, payment, edges, limits, silent, most_delay
-        );
-        status(&write_found(alloc, found, &payment.secret, hops, payloads, lengths))
-    })
+    match estimates.take(alloc) {
+        Some(known) => {
+            let attempt = Attempt::of(payment, edges, limits, silent, &known, search);
+            let answer = write_attempt(alloc, map, &attempt, &payment.secret, hops, payloads, lengths);
+            *estimates = LgmEstimates::open(known);
+            answer
+        }
+        None => {
+            let nothing = Estimates::new(alloc);
+            let attempt = Attempt::of(payment, edges, limits, silent, &nothing, search);
+            write_attempt(alloc, map, &attempt, &payment.secret, hops, payloads, lengths)
+        }
+    }
 }

@@ -53,6 +53,7 @@ fn word_of_call(number: u32) -> &'static str
     match number {
         0 => "accepted",
         26 => "undecided",
+        27 => "so-far",
         31 => "not-query",
         32 => "not-filter",
         33 => "not-announced",
@@ -92,10 +93,10 @@ pub extern "C" fn lgm_word(number: u32, word: &mut [u8; 24])
     copy_in_front(bytes, word);
 }
 
-/// The version of this interface, which is 2.
+/// The version of this interface, which is 3.
 #[unsafe(no_mangle)]
 pub extern "C" fn lgm_version() -> u32
-    ensures { result ≡ 2 }
+    ensures { result ≡ 3 }
 {
-    2
+    3
 }

@@ -2,7 +2,8 @@
 //!
 //!     cargo run --offline --example calls
 
-use lgm::{Edge, Estimate, Estimates, Fault, Funding, Limit, Map, Overlay, Payment, Sig, Which};
+use lgm::{Edge, Estimate, Estimates, Fault, Found, Funding, Limit, Map, Overlay, Payment, Search, Sig, Which};
+use std::num::{NonZeroU8, NonZeroU16, NonZeroU64, NonZeroUsize};
 
 const CHAIN: [u8; 32] = [0xc1; 32];
 const SEED: [u8; 16] = [7; 16];
@@ -96,27 +97,60 @@ fn overlays() -> Result<(), Fault> {
     let hint = Edge { scid: 9, htlc_maximum_msat: 50_000, fee_base_msat: 5, fee_proportional_millionths: 0,
                       cltv_expiry_delta: 30, from: B, to: C, ..own_channel(0) };
     let edges = [own_channel(10_005), hint];
-    let over = Overlay { edges: &edges, most_delay: Some(30), ..Overlay::default() };
+    let over = Overlay { edges: &edges, ..Overlay::default() };
+    let within = |blocks| Search { most_delay: NonZeroU16::new(blocks), ..Search::default() };
     for map in [&map, &published] {
         assert_eq!(word(map.route(&payment)), "no-route");
-        assert_eq!(word(map.route_over(&payment, &Overlay::default())), "no-route");
-        let hops = map.route_over(&payment, &over)?;
+        assert_eq!(word(map.route_over(&payment, &Overlay::default(), &Search::default())), "no-route");
+        let Found { hops, is_best } = map.route_over(&payment, &over, &within(30))?;
+        assert!(is_best);
         let found: Vec<_> = hops.iter().map(|hop| (hop.scid, hop.amount_msat, hop.expiry, hop.from, hop.to)).collect();
         assert_eq!(found, [(SCID, 10_005, 700_030, A, B), (9, 10_000, 700_000, B, C)]);
         assert!(hops.iter().all(|hop| hop.payload.len() == 1 + usize::from(hop.payload[0])));
         let limits = [Limit { scid: SCID, most_msat: 10_004, from: A }];
         let refused = [
-            Overlay { most_delay: Some(29), ..over },
-            Overlay { limits: &limits, ..over },
-            Overlay { edges: &edges[1..], silent: &[A], ..over },
+            (over, within(29)),
+            (over, Search { most_hops: NonZeroU8::new(1), ..Search::default() }),
+            (Overlay { limits: &limits, ..over }, within(30)),
+            (Overlay { edges: &edges[1..], silent: &[A], ..over }, within(30)),
         ];
-        for over in refused {
-            assert_eq!(word(map.route_over(&payment, &over)), "no-route");
+        for (over, search) in refused {
+            assert_eq!(word(map.route_over(&payment, &over, &search)), "no-route");
         }
-        assert_eq!(map.route_over(&payment, &Overlay { silent: &[A, B, C], most_delay: None, ..over })?, hops);
+        let silenced = Overlay { silent: &[A, B, C], ..over };
+        assert_eq!(map.route_over(&payment, &silenced, &Search::default())?, Found { hops, is_best });
         let many = vec![hint; 100_001];
-        assert_eq!(word(map.route_over(&payment, &Overlay { edges: &many, ..over })), "argument");
+        assert_eq!(word(map.route_over(&payment, &Overlay { edges: &many, ..over }, &within(30))), "argument");
     }
+    Ok(())
+}
+
+/// From B two hints lead to C: for 5 msat, and for 9.
+fn preferences() -> Result<(), Fault> {
+    let map = Map::new(&CHAIN, None, &SEED)?;
+    let payment = Payment { payer: A, payee: C, amount_msat: 10_000, expiry: 700_000, secret: [7; 32] };
+    let hint = |scid, base| Edge { scid, fee_base_msat: base, fee_proportional_millionths: 0, from: B, to: C,
+                                   ..own_channel(50_000_000) };
+    let edges = [own_channel(20_000), hint(5, 5), hint(9, 9)];
+    let over = Overlay { edges: &edges, ..Overlay::default() };
+    let sent = |search: &Search| {
+        let Found { hops, is_best } = map.route_over(&payment, &over, search)?;
+        Ok((hops[1].scid, hops[0].amount_msat, is_best))
+    };
+    assert_eq!(sent(&Search::default())?, (5, 10_005, true));
+    let mut estimates = Estimates::new()?;
+    estimates.set(5, &B, &Estimate { penalty_msat: 4, ..Estimate::default() })?;
+    let learnt = Search { estimates: Some(&estimates), ..Search::default() };
+    // 5 msat and the penalty of 4 are as much as 9, and the lesser id decides.
+    assert_eq!(sent(&learnt)?, (5, 10_005, true));
+    estimates.set(5, &B, &Estimate { penalty_msat: 5, ..Estimate::default() })?;
+    let learnt = Search { estimates: Some(&estimates), ..Search::default() };
+    assert_eq!(sent(&learnt)?, (9, 10_009, true));
+    assert_eq!(sent(&Search { hop_msat: 100, failure_msat: 1, ..learnt })?, (9, 10_009, true));
+    let few_steps = Search { most_steps: NonZeroU64::new(1), ..learnt };
+    assert_eq!(sent(&few_steps)?, (9, 10_009, false));
+    assert_eq!(word(sent(&Search { most_labels: NonZeroUsize::new(1), ..learnt })), "undecided");
+    assert_eq!(estimates.count(), 1);
     Ok(())
 }
 
@@ -139,6 +173,7 @@ fn main() -> Result<(), Fault> {
     lists()?;
     published_maps()?;
     overlays()?;
+    preferences()?;
     estimates()?;
     println!("ok");
     Ok(())

@@ -21,7 +21,7 @@ impl Estimates {
     }
 
     /// The handle, for one call that reads. One that panicked left it whole: no call of the library unwinds.
-    fn handle(&self) -> MutexGuard<'_, raw::Handle> {
+    pub(crate) fn handle(&self) -> MutexGuard<'_, raw::Handle> {
         self.handle.lock().unwrap_or_else(PoisonError::into_inner)
     }
 

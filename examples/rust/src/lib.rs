@@ -8,6 +8,7 @@ mod estimates;
 mod raw;
 
 use std::fmt;
+use std::num::{NonZeroU8, NonZeroU16, NonZeroU64, NonZeroUsize};
 use std::sync::{Mutex, MutexGuard, PoisonError};
 
 pub use estimates::Estimates;
@@ -100,7 +101,7 @@ impl Payment {
     }
 }
 
-/// What a payer knows beside the map, and how long a payment may lock what it sends. The default is nothing, and any delay.
+/// What a payer knows beside the map. The default is nothing.
 #[derive(Clone, Copy, Debug, Default)]
 pub struct Overlay<'a> {
     /// Edges beside the map's: of those with one id out of one node the first counts.
@@ -109,8 +110,44 @@ pub struct Overlay<'a> {
     pub limits: &'a [Limit],
     /// Nodes whose edges in the map aren't used. They may be paid, and the edges above may leave them.
     pub silent: &'a [Point],
-    /// The most blocks between the expiry of the route and that of the payment. It may be any if this is `None` or 65,535.
-    pub most_delay: Option<u16>,
+}
+
+/// What a payer prefers and has learnt, and limits of its route and of the search for it. The default prefers nothing, and
+/// limits nothing but the search.
+///
+/// ```
+/// let within_a_week = lgm::Search { most_delay: std::num::NonZeroU16::new(1_008), ..lgm::Search::default() };
+/// ```
+#[derive(Clone, Copy, Debug, Default)]
+pub struct Search<'a> {
+    /// What a failed try is worth to the payer, in msat.
+    pub failure_msat: u32,
+    /// What each hop is worth to it, in msat.
+    pub hop_msat: u32,
+    /// What it has learnt of edges. They are locked while the call runs.
+    pub estimates: Option<&'a Estimates>,
+    /// The most blocks between the expiry of the route and that of the payment.
+    pub most_delay: Option<NonZeroU16>,
+    /// The most hops. There are never more than 20.
+    pub most_hops: Option<NonZeroU8>,
+    /// The most labels of the search, of some 50 bytes each. The library has a limit if this is `None`.
+    pub most_labels: Option<NonZeroUsize>,
+    /// The most steps of the search: edges looked at, and labels compared. The library has a limit if this is `None`.
+    pub most_steps: Option<NonZeroU64>,
+}
+
+impl Search<'_> {
+    /// As C has it.
+    fn raw(&self) -> raw::Search {
+        raw::Search {
+            most_steps: self.most_steps.map_or(0, NonZeroU64::get),
+            most_labels: self.most_labels.map_or(0, NonZeroUsize::get),
+            failure_msat: self.failure_msat,
+            hop_msat: self.hop_msat,
+            most_delay: self.most_delay.map_or(0, NonZeroU16::get),
+            most_hops: self.most_hops.map_or(0, NonZeroU8::get),
+        }
+    }
 }
 
 /// One channel of a route, with the HTLC that is offered over it.
@@ -128,6 +165,15 @@ pub struct Hop {
     pub to: Point,
     /// The payload for that node.
     pub payload: Vec<u8>,
+}
+
+/// A route that was found.
+#[derive(Clone, Debug, PartialEq, Eq)]
+pub struct Found {
+    /// Its hops, from the payer on.
+    pub hops: Vec<Hop>,
+    /// Whether it is the best one. That isn't known if labels or steps ran out.
+    pub is_best: bool,
 }
 
 /// A map of one chain: one that changes, by [`Map::new`], or a published one, by [`Map::publish`] or [`Map::share`], which
@@ -223,24 +269,29 @@ impl Map {
     /// The route by which the payer sends the least, from the payer on.
     pub fn route(&self, payment: &Payment) -> Result<Vec<Hop>, Fault> {
         let (asked, mut handle) = (payment.raw(), self.handle());
-        routed(|hops, payloads, lengths| {
+        let found = routed(|hops, payloads, lengths| {
             let (room, len) = (hops.as_mut_ptr(), hops.len());
             let (bytes, bytes_len) = (payloads.as_mut_ptr(), payloads.len());
             // SAFETY: a handle of this crate, references, and the lengths of both buffers.
             unsafe { raw::lgm_route(&mut *handle, &asked, room, len, bytes, bytes_len, lengths) }
-        })
+        })?;
+        Ok(found.hops)
     }
 
-    /// The same over what the payer knows beside the map. The fault whose word is `undecided` says nothing about the payment:
-    /// there was too much to search within the delay.
-    pub fn route_over(&self, payment: &Payment, overlay: &Overlay) -> Result<Vec<Hop>, Fault> {
+    /// The best route over what the payer knows beside the map, by what it prefers, within limits. The fault whose word is
+    /// `undecided` says nothing about the payment: labels or steps ran out before a route was found.
+    ///
+    /// The map is locked first, and then the estimates.
+    pub fn route_over(&self, payment: &Payment, overlay: &Overlay, search: &Search) -> Result<Found, Fault> {
         let (asked, mut handle) = (payment.raw(), self.handle());
-        let Overlay { edges, limits, silent, most_delay } = *overlay;
-        let most_delay = most_delay.unwrap_or(raw::ANY_DELAY);
+        let Overlay { edges, limits, silent } = *overlay;
+        let (mut locked, mut nothing) = (search.estimates.map(Estimates::handle), raw::Handle::closed());
+        let known = locked.as_deref_mut().unwrap_or(&mut nothing);
+        let search = search.raw();
         routed(|hops, payloads, lengths| {
             let (room, len) = (hops.as_mut_ptr(), hops.len());
             let (bytes, bytes_len) = (payloads.as_mut_ptr(), payloads.len());
-            // SAFETY: a handle of this crate, references, and the lengths of all lists and buffers.
+            // SAFETY: two handles of this crate, references, and the lengths of all lists and buffers.
             unsafe {
                 raw::lgm_route_over(
                     &mut *handle,
@@ -251,7 +302,8 @@ impl Map {
                     limits.len(),
                     silent.as_ptr(),
                     silent.len(),
-                    most_delay,
+                    known,
+                    &search,
                     room,
                     len,
                     bytes,
@@ -379,12 +431,16 @@ fn opened(open: impl FnOnce(&mut raw::Handle) -> u32) -> Result<Map, Fault> {
 }
 
 /// The route that a call writes to buffers that are never too short.
-fn routed(call: impl FnOnce(&mut [raw::Hop], &mut [u8], &mut raw::Lengths) -> u32) -> Result<Vec<Hop>, Fault> {
+fn routed(call: impl FnOnce(&mut [raw::Hop], &mut [u8], &mut raw::Lengths) -> u32) -> Result<Found, Fault> {
     let mut hops = [raw::Hop::default(); 20];
     let mut payloads = [0; 1300];
     let mut lengths = raw::Lengths::default();
-    check(call(&mut hops, &mut payloads, &mut lengths))?;
-    Ok(route(&hops[..lengths.hops], &payloads[..lengths.payloads]))
+    let number = call(&mut hops, &mut payloads, &mut lengths);
+    if number != raw::SO_FAR {
+        check(number)?;
+    }
+    let hops = route(&hops[..lengths.hops], &payloads[..lengths.payloads]);
+    Ok(Found { hops, is_best: number != raw::SO_FAR })
 }
 
 /// A route from its hops, and their payloads one after the other.

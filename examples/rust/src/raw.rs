@@ -83,8 +83,19 @@ impl Default for Estimate {
     }
 }
 
-/// The delay of a route that may have any.
-pub const ANY_DELAY: u16 = 65_535;
+/// What a payer prefers, and limits, where 0 stands for none.
+#[repr(C)]
+pub struct Search {
+    pub most_steps: u64,
+    pub most_labels: usize,
+    pub failure_msat: u32,
+    pub hop_msat: u32,
+    pub most_delay: u16,
+    pub most_hops: u8,
+}
+
+/// The number that a call returns which wrote a route that may not be the best one.
+pub const SO_FAR: u32 = 27;
 
 /// A point, with a default, so that arrays of hops have one.
 #[repr(transparent)]
@@ -194,7 +205,8 @@ unsafe extern "C" {
         limits_len: usize,
         silent: *const [u8; 33],
         silent_len: usize,
-        most_delay: u16,
+        estimates: *mut Handle,
+        search: *const Search,
         hops: *mut Hop,
         hops_len: usize,
         payloads: *mut u8,

@@ -10,5 +10,5 @@ returns-in_err-make_view-clause-route c =
     let rows_are : c.map.result.now ≡ held.rows = c.map.ensures ∙ ap (λ map. map.rows) c.self.view_is in
     let few : length held.rows.channels ≤ MAX_CHANNELS =
     subst (λ (rows : Rows). length rows.channels ≤ MAX_CHANNELS) rows_are c.in_ok-is_searched.ensures.few in
-    short_of_memory c.args.attempt.now held.known held.rows few c.in_ok-is_searched.ensures.lawful
+    short_of_memory c.args.attempt.now held.known held.rows c.in_ok-is_searched.ensures.small few c.in_ok-is_searched.ensures.lawful
     c.from_residual-in_err-make_view.result c.from_residual-in_err-make_view.ensures.1
