@@ -1,12 +1,14 @@
 #!/usr/bin/env python3
-"""Measures payments over what the payer knows beside the map, and within a delay, and plain ones beside them.
+"""Measures payments over what the payer knows beside the map, by what it prefers, and within a delay, and plain ones
+beside them.
 
     python3 bench/payments.py
 
 bench/payments.rattle is a program over the crates: it answers the payments of a workload plainly, over an overlay of
-each kind, and within each of several delays. It is built in the system's temporary folder, behind the libraries that it
-needs where these aren't built. Times are CPU time of one payment, the minimum of all runs; the making of an overlay
-isn't counted, the view over it is. `limit` is what the time is meant to stay below.
+each kind, by preferences, and within each of several delays. It is built in the system's temporary folder, behind the
+libraries that it needs where these aren't built. Times are CPU time of one payment, the minimum of all runs; the making
+of an overlay and of estimates isn't counted, the view over an overlay is. `limit` is what the time is meant to stay
+below.
 """
 
 import argparse
@@ -34,7 +36,11 @@ OVERLAYS = {
     "many": "1,000 limits, five own channels, two hints",
     "silent": "the largest hub silent",
 }
-DELAYS = ("288", "576", "1008", "2016")
+PREFERRED = {
+    "preferred": "failure_msat 20,000, hop_msat 500; 0 estimates",
+    "learned": "the same; 20,000 estimates",
+}
+DELAYS = {delay: f"{delay} blocks" for delay in ("288", "576", "1008", "2016")}
 NETWORKS = {
     "routes": "usual terms",
     "slow": "every twentieth channel free, with a delta of 2,016",
@@ -43,7 +49,8 @@ NETWORKS = {
 
 
 class Tally(NamedTuple):
-    """What a run took for all payments of a kind, in ns, and what they were. Labels are of searches within a delay."""
+    """What a run took for all payments of a kind, in ns, and what they were. Labels are of the searches by preferences,
+    and of those within a delay."""
 
     all: int
     median: int
@@ -51,7 +58,7 @@ class Tally(NamedTuple):
     greatest: int
     routed: int
     sent: int
-    undecided: int
+    cut_short: int  # labels ran out
     beyond: int  # plain routes that are beyond the delay
     median_labels: int
     most_labels: int  # of 99 percent
@@ -136,15 +143,15 @@ def print_overlays(taken):
         print(f"{name:<52}{mean(taken[kind]):>9.1f}{limit:>9}{taken[kind].routed:>9}")
 
 
-def print_delays(name, taken):
-    """The table of delays on a network."""
-    columns = ("median µs", "99 % µs", "most µs", "routes", "beyond", "undecided", "labels", "99 %")
-    print(f"{name:<52}" + "".join(f"{column:>10}" for column in columns))
-    for kind in ("plain", *DELAYS):
+def print_searches(name, plain, kinds, taken):
+    """The table of preferences, or of delays, on a network, below a row of plain payments."""
+    columns = ("median µs", "99 % µs", "most µs", "routes", "beyond", "cut short", "labels", "99 %")
+    print(f"\n{name:<52}" + "".join(f"{column:>10}" for column in columns))
+    for kind, label in {"plain": plain, **kinds}.items():
         it = taken[kind]
-        label = "no limit" if kind == "plain" else f"{kind} blocks"
         times = "".join(f"{taken / 1_000:>10.1f}" for taken in (it.median, it.most, it.greatest))
-        counts = (it.routed, it.beyond, it.undecided, it.median_labels, it.most_labels)
+        beyond = "" if kind in PREFERRED else it.beyond
+        counts = (it.routed, beyond, it.cut_short, it.median_labels, it.most_labels)
         print(f"{label:<52}{times}" + "".join(f"{count:>10}" for count in counts))
 
 
@@ -160,12 +167,12 @@ def main():
             sys.exit(f"{failed.args[1]}{failed.args[0]} couldn't be built")
         for workload, name in NETWORKS.items():
             running.make_script(script, options.channels, workload, options.seed)
-            overlays = OVERLAYS if workload == "routes" else ("plain", "empty")
-            taken = measure_all(program, script, (*overlays, *DELAYS), options.runs)
+            kinds = (*OVERLAYS, *PREFERRED) if workload == "routes" else ("plain", "empty")
+            taken = measure_all(program, script, (*kinds, *DELAYS), options.runs)
             if workload == "routes":
                 print_overlays(taken)
-            print()
-            print_delays(name, taken)
+                print_searches(name, "no preferences", PREFERRED, taken)
+            print_searches(name, "no limit", DELAYS, taken)
 
 
 if __name__ == "__main__":

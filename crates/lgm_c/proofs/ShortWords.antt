@@ -42,12 +42,12 @@ either_short false word other short short' = short'
 
 call_short : (number : ℕ) → length (word_of_call number) ≤ 24
 call_short number =
-    either_short (number == 0) _ _ (lit≤ tt) (either_short (number == 26) _ _ (lit≤ tt) (either_short (number
-    == 31) _ _ (lit≤ tt) (either_short (number == 32) _ _ (lit≤ tt) (either_short (number == 33) _ _
+    either_short (number == 0) _ _ (lit≤ tt) (either_short (number == 26) _ _ (lit≤ tt) (either_short (number == 27) _ _ (lit≤ tt)
+    (either_short (number == 31) _ _ (lit≤ tt) (either_short (number == 32) _ _ (lit≤ tt) (either_short (number == 33) _ _
     (lit≤ tt) (either_short (number == 100) _ _ (lit≤ tt) (either_short (number == 101) _ _ (lit≤ tt)
     (either_short (number == 102) _ _ (lit≤ tt) (either_short (number == 103) _ _ (lit≤ tt) (either_short
     (number == 104) _ _ (lit≤ tt) (either_short (number == 105) _ _ (lit≤ tt) (either_short (number == 106) _ _
-    (lit≤ tt) (either_short (number == 107) _ _ (lit≤ tt) (lit≤ tt)))))))))))))
+    (lit≤ tt) (either_short (number == 107) _ _ (lit≤ tt) (lit≤ tt))))))))))))))
 
 pub word_short : (number : ℕ) → length (word_at number) ≤ 24
 unfolding word_at

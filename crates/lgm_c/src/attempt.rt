@@ -109,8 +109,16 @@ impl LgmSearch {
         ensures { result ≡ limits_given self.now }
     {
         RouteLimits {
-            most_delay: if self.most_delay == 0 { None } else { Some(self.most_delay) },
-            most_hops: if self.most_hops == 0 { 20 } else { self.most_hops },
+            most_delay: if self.most_delay == 0 {
+                None
+            } else {
+                Some(self.most_delay)
+            },
+            most_hops: if self.most_hops == 0 {
+                20
+            } else {
+                self.most_hops
+            },
         }
     }
 
@@ -118,8 +126,16 @@ impl LgmSearch {
         ensures { result ≡ budget_given self.now }
     {
         SearchBudget {
-            most_labels: if self.most_labels == 0 { MOST_LABELS } else { self.most_labels },
-            most_steps: if self.most_steps == 0 { MOST_STEPS } else { self.most_steps },
+            most_labels: if self.most_labels == 0 {
+                MOST_LABELS
+            } else {
+                self.most_labels
+            },
+            most_steps: if self.most_steps == 0 {
+                MOST_STEPS
+            } else {
+                self.most_steps
+            },
         }
     }
 }

@@ -230,7 +230,15 @@ fn write_plain(
     state.map().rows_are_lawful();
     let nothing = Estimates::new(alloc);
     let attempt = Attempt::plain(payment, &nothing);
-    write_tried(alloc, state, &attempt, &payment.secret, hops, payloads, lengths)
+    write_tried(
+        alloc,
+        state,
+        &attempt,
+        &payment.secret,
+        hops,
+        payloads,
+        lengths,
+    )
 }
 
 /// The route of a payment by which the payer sends the least: its hops, from the payer on, and their payloads one after
@@ -308,14 +316,30 @@ pub extern "C" fn lgm_route_over(
     match estimates.take(alloc) {
         Some(known) => {
             let attempt = Attempt::of(payment, edges, limits, silent, &known, search);
-            let answer = write_attempt(alloc, map, &attempt, &payment.secret, hops, payloads, lengths);
+            let answer = write_attempt(
+                alloc,
+                map,
+                &attempt,
+                &payment.secret,
+                hops,
+                payloads,
+                lengths,
+            );
             *estimates = LgmEstimates::open(known);
             answer
         }
         None => {
             let nothing = Estimates::new(alloc);
             let attempt = Attempt::of(payment, edges, limits, silent, &nothing, search);
-            write_attempt(alloc, map, &attempt, &payment.secret, hops, payloads, lengths)
+            write_attempt(
+                alloc,
+                map,
+                &attempt,
+                &payment.secret,
+                hops,
+                payloads,
+                lengths,
+            )
         }
     }
 }

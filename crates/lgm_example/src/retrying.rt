@@ -1,19 +1,35 @@
-//! A payment that is tried until it arrives. What the payer knows, and what each try teaches, is an overlay on the map.
+//! A payment that is tried until it arrives. What the payer knows of its own channels is an overlay on the map, and what
+//! each try teaches of others are estimates.
 
 use crate::messages::{point, scid};
-use lgm_graph::{ExtraEdge, Hop, Limit, Overlay, Route};
+use lgm_graph::{Estimates, ExtraEdge, Hop, Overlay, Route};
 use lgm_publish::{Eye, Guard};
-use lgm_route::{DelayLimit, LimitedFault, Request, RouteFault, answer_within};
+use lgm_route::{
+    Found, Preferences, Request, RouteFault, RouteLimits, SearchBudget, SearchFault,
+    answer_preferred,
+};
 use std::alloc::{AllocError, Global};
 use std::fmt;
 
 /// The number of times that a payment is tried.
 const TRIES: u32 = 3;
 
-/// A payment locks what it sends for at most 1,008 blocks, a week, and takes at most a million labels, some 40 MB.
-const LIMIT: DelayLimit = DelayLimit {
-    most_delay: 1_008,
+/// A would rather pay 20 sat than have a try fail, and 500 msat than use a channel more.
+const PREFERENCES: Preferences = Preferences {
+    failure_msat: 20_000,
+    hop_msat: 500,
+};
+
+/// A payment locks what it sends for at most 1,008 blocks, a week.
+const LIMITS: RouteLimits = RouteLimits {
+    most_delay: Some(1_008),
+    most_hops: 20,
+};
+
+/// A search takes at most a million labels, some 40 MB. If they run out, the best route so far is tried.
+const BUDGET: SearchBudget = SearchBudget {
     most_labels: 1_000_000,
+    most_steps: u64::MAX,
 };
 
 /// How a payment ends.
@@ -22,7 +38,7 @@ pub enum Ended {
     /// It arrives at this try, and this is the HTLC that the payer offers.
     Paid(u32, Hop),
     /// There is no route over what is left, or none was found.
-    NotPaid(LimitedFault),
+    NotPaid(SearchFault),
     /// The last try failed, too.
     GaveUp,
 }
@@ -43,6 +59,18 @@ impl fmt::Display for Ended {
     }
 }
 
+/// Out of memory.
+const NO_MEMORY: Ended = Ended::NotPaid(SearchFault::Fault(RouteFault::NoMemory));
+
+/// What A knows beside the map.
+#[derive(Drop)]
+struct Knowledge {
+    /// Its own channels.
+    own: Overlay,
+    /// What tries taught it of channels.
+    estimates: Estimates,
+}
+
 /// A channel of the payer A, with what A can send over it, in msat. Its terms don't matter: the payer's own channel
 /// charges nothing.
 fn own_channel(number: u32, peer: u8, balance: u64) -> ExtraEdge {
@@ -58,13 +86,34 @@ fn own_channel(number: u32, peer: u8, balance: u64) -> ExtraEdge {
     }
 }
 
-/// What A knows of its own channels: these edges stand in place of all that the map has of them.
-fn own_channels(alloc: Global) -> Result<Overlay, AllocError> {
-    let mut overlay = Overlay::new(alloc);
-    overlay.silence(point(10))?;
-    overlay.add(own_channel(1, 11, 30_000_000))?;
-    overlay.add(own_channel(3, 12, 20_000_000))?;
-    Ok(overlay)
+impl Knowledge {
+    /// What A knows before the first try. Its own channels stand in place of all that the map has of them. It is in a box:
+    /// a proof takes long for a function that owns it itself.
+    fn new(alloc: Global) -> Result<Box<Knowledge>, AllocError> {
+        let mut knowledge = Box::new(
+            alloc,
+            Knowledge {
+                own: Overlay::new(alloc),
+                estimates: Estimates::new(alloc),
+            },
+        )?;
+        knowledge.own.silence(point(10))?;
+        knowledge.own.add(own_channel(1, 11, 30_000_000))?;
+        knowledge.own.add(own_channel(3, 12, 20_000_000))?;
+        Ok(knowledge)
+    }
+
+    /// Learns from a try that failed at a hop: the hops before it carried what they were offered.
+    fn learn(&mut self, route: &Route, failed: &Hop) -> Result<(), AllocError> {
+        for hop in route.as_slice() {
+            if hop == failed {
+                break;
+            }
+            self.estimates.carried(hop.scid, &hop.from, hop.amount)?;
+        }
+        self.estimates
+            .failed(failed.scid, &failed.from, failed.amount)
+    }
 }
 
 /// Offers the payment along a route: the hop at which it fails, if any. Here channel 2 has 400,000 msat on B's side,
@@ -77,36 +126,47 @@ fn offer(route: &Route) -> Option<Hop> {
         .copied()
 }
 
-/// The best route over the overlay within the limit, on the map that a guard shows.
+/// The best route by what A prefers and knows, on the map that a guard shows.
 fn find(
     alloc: Global,
     guard: &Guard,
-    overlay: &Overlay,
+    knowledge: &Knowledge,
     request: &Request,
-) -> Result<Route, LimitedFault> {
+) -> Result<Found, SearchFault> {
     let view = guard.view();
     // Each extra edge may add two nodes to those of the view, which are numbered by 32 bits.
-    if view.nodes() > 4_000_000_000 || overlay.extra_count() > 1_000_000 {
-        return Err(LimitedFault::Fault(RouteFault::NoMemory));
+    if view.nodes() > 4_000_000_000 || knowledge.own.extra_count() > 1_000_000 {
+        return Err(SearchFault::Fault(RouteFault::NoMemory));
     }
-    answer_within(alloc, guard.map(), view, overlay, request, &LIMIT)
+    answer_preferred(
+        alloc,
+        guard.map(),
+        view,
+        &knowledge.own,
+        &PREFERENCES,
+        &knowledge.estimates,
+        request,
+        &LIMITS,
+        &BUDGET,
+    )
 }
 
-/// A limit that excludes the amount that a hop couldn't carry.
-fn limit_of(hop: &Hop) -> Limit {
-    Limit {
-        scid: hop.scid,
-        from: hop.from,
-        most: hop.amount.saturating_sub(1),
+/// Offers the payment along a route, and learns from it if it fails. Returns how the payment ends, if it does.
+fn send(knowledge: &mut Knowledge, route: &Route, tries: u32) -> Option<Ended> {
+    let Some(failed) = offer(route) else {
+        return Some(Ended::Paid(tries, route.as_slice()[0]));
+    };
+    match knowledge.learn(route, &failed) {
+        Ok(()) => None,
+        Err(AllocError) => Some(NO_MEMORY),
     }
 }
 
-/// Tries a payment once, on the map published last, and adds a limit if it fails. Returns the eye, and how the payment
-/// ends, if it does.
+/// Tries a payment once, on the map published last. Returns the eye, and how the payment ends, if it does.
 fn try_once(
     alloc: Global,
     eye: Eye,
-    overlay: &mut Overlay,
+    knowledge: &mut Knowledge,
     request: &Request,
     tries: u32,
 ) -> (Eye, Option<Ended>) {
@@ -114,22 +174,12 @@ fn try_once(
         Ok(guard) => guard,
         Err(eye) => return (eye, Some(Ended::GaveUp)),
     };
-    let answer = find(alloc, &guard, overlay, request);
+    let answer = find(alloc, &guard, knowledge, request);
     // The payment takes long, so the guard is left before.
     let eye = guard.leave();
-    let route = match answer {
-        Ok(route) => route,
-        Err(fault) => return (eye, Some(Ended::NotPaid(fault))),
-    };
-    match offer(&route) {
-        None => (eye, Some(Ended::Paid(tries, route.as_slice()[0]))),
-        Some(hop) => match overlay.limit(limit_of(&hop)) {
-            Ok(()) => (eye, None),
-            Err(AllocError) => (
-                eye,
-                Some(Ended::NotPaid(LimitedFault::Fault(RouteFault::NoMemory))),
-            ),
-        },
+    match answer {
+        Ok(found) => (eye, send(knowledge, &found.route, tries)),
+        Err(fault) => (eye, Some(Ended::NotPaid(fault))),
     }
 }
 
@@ -141,15 +191,12 @@ pub fn pay(alloc: Global, eye: Eye) -> (Eye, Ended) {
         amount: 1_000_000,
         expiry: 700_000,
     };
-    let Ok(mut overlay) = own_channels(alloc) else {
-        return (
-            eye,
-            Ended::NotPaid(LimitedFault::Fault(RouteFault::NoMemory)),
-        );
+    let Ok(mut knowledge) = Knowledge::new(alloc) else {
+        return (eye, NO_MEMORY);
     };
     let mut eye = eye;
     for tries in 1..=TRIES {
-        let (back, ended) = try_once(alloc, eye, &mut overlay, &request, tries);
+        let (back, ended) = try_once(alloc, eye, &mut knowledge, &request, tries);
         eye = back;
         if let Some(ended) = ended {
             return (eye, ended);

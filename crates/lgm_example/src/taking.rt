@@ -9,7 +9,8 @@ use std::alloc::{AllocError, Global};
 /// The state of the writer.
 #[derive(Drop)]
 pub struct Taker {
-    map: Map,
+    /// In a box: a proof takes long for a function that owns a map itself.
+    map: Box<Map>,
     /// An operation that was applied to the map, and returned by the pen. It is appended before anything else.
     back: Option<Op>,
 }
@@ -18,7 +19,7 @@ impl Taker {
     /// No gossip was taken yet. Points of the map will be hashed with the seed.
     pub fn new(alloc: Global, seed: Seed) -> Result<Taker, AllocError> {
         Ok(Taker {
-            map: Map::with_seed(alloc, seed)?,
+            map: Box::new(alloc, Map::with_seed(alloc, seed)?)?,
             back: None,
         })
     }

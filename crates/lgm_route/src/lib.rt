@@ -24,6 +24,7 @@ mod penalties;
 mod preferences;
 mod preferred;
 mod queue;
+mod quickest;
 mod relaxation;
 mod request;
 mod search;

@@ -162,6 +162,63 @@ impl<'a, V: RoutingGraph, P: Penalties> Search<'a, V, P> {
         Ok(())
     }
 
+    /// The same within limits: where many labels led to no walk, a quick one is looked for.
+    pub(crate) fn settle_within(&mut self, alloc: Global) -> Result<(), Halt>
+        ensures extends { IfOk result (λ _. Extends self.old self.new) }
+        ensures halted { IfErr result (λ halt. IsHalted self.old self.new halt) }
+    {
+        let mut queue = Queue::of(alloc, self)?;
+        if self.settle_first(&mut queue)? {
+            return Ok(());
+        }
+        self.hasten(alloc, &mut queue)?;
+        self.settle_queue(&mut queue, usize::MAX)?;
+        Ok(())
+    }
+
+    /// Settles the labels of a queue best-first until there are many. Returns whether the remaining ones can be pruned.
+    fn settle_first(&mut self, queue: &mut Queue) -> Result<bool, Halt>
+        ensures extends { IfOk result (λ _. Extends self.old self.new) }
+        ensures halted { IfErr result (λ halt. IsHalted self.old self.new halt) }
+    {
+        for _turn in 0..usize::MAX {
+            if PATIENCE < self.len() {
+                return Ok(false);
+            }
+            if !self.settle_next(queue)? {
+                break;
+            }
+        }
+        Ok(true)
+    }
+
+    /// Looks for a quick walk, unless some walk was found, and queues the labels that this adds.
+    fn hasten(&mut self, alloc: Global, queue: &mut Queue) -> Result<(), Halt>
+        ensures extends { IfOk result (λ _. Extends self.old self.new) }
+        ensures halted { IfErr result (λ halt. IsHalted self.old self.new halt) }
+    {
+        if self.has_walk() {
+            return Ok(());
+        }
+        self.settle_quickest(alloc)?;
+        queue.fill(self)?;
+        Ok(())
+    }
+
+    /// Settles the next label of a queue. Returns whether there was one: else the remaining ones can be pruned.
+    #[inline(always)]
+    fn settle_next(&mut self, queue: &mut Queue) -> Result<bool, Halt>
+        ensures extends { IfOk result (λ _. Extends self.old self.new) }
+        ensures halted { IfErr result (λ halt. IsHalted self.old self.new halt) }
+    {
+        let Some(i) = queue.next(self) else {
+            return Ok(false);
+        };
+        self.settle(i)?;
+        queue.fill(self)?;
+        Ok(true)
+    }
+
     /// Settles the labels of a queue best-first until the remaining ones can be pruned; or, once `most` are settled,
     /// until some walk is found. Returns whether the remaining ones can be pruned.
     pub(crate) fn settle_queue(&mut self, queue: &mut Queue, most: usize) -> Result<bool, Halt>
@@ -172,15 +229,16 @@ impl<'a, V: RoutingGraph, P: Penalties> Search<'a, V, P> {
             if most <= turn && self.has_walk() {
                 return Ok(false);
             }
-            let Some(i) = queue.next(self) else {
+            if !self.settle_next(queue)? {
                 break;
-            };
-            self.settle(i)?;
-            queue.fill(self)?;
+            }
         }
         Ok(true)
     }
 }
+
+/// The number of labels without a walk behind which a quick walk is looked for.
+const PATIENCE: usize = 20_000;
 
 /// The maximum number of dives of a search.
 const MOST_DIVES: u32 = 64;

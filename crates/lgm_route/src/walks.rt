@@ -67,7 +67,7 @@ pub(crate) fn walk_within<V: RoutingGraph, P: Penalties>(
     ensures { IsWalkFound (edges (V.graph view.now)) (asked (P.terms request.now.penalties) request.now) budget.now result }
 {
     let mut search = begin(alloc, view, request, *budget)?;
-    match finish(alloc, &mut search) {
+    match finish_within(alloc, &mut search) {
         Ok(()) => match search.best_walk(alloc)? {
             Some(walk) => Ok(WalkFound {
                 walk,
@@ -95,6 +95,18 @@ fn finish<V: RoutingGraph, P: Penalties>(
     ensures halted { IfErr result (λ halt. IsHalted search.old search.new halt) }
 {
     search.settle_best_first(alloc)?;
+    search.sweep()
+}
+
+/// The same within limits.
+fn finish_within<V: RoutingGraph, P: Penalties>(
+    alloc: Global,
+    search: &mut Search<'_, V, P>,
+) -> Result<(), Halt>
+    ensures finished { IfOk result (λ _. (search.new.ground ≡ search.old.ground) × IsFinished search.new) }
+    ensures halted { IfErr result (λ halt. IsHalted search.old search.new halt) }
+{
+    search.settle_within(alloc)?;
     search.sweep()
 }
 

@@ -2,8 +2,8 @@
 //! numbers from a seed.
 //!
 //! [`Channel`], [`Update`] and [`Node`] have the fields that tests set. `new` takes those without a usual value;
-//! `message` gives the message as a type, and `bytes` its encoding. [`ops`] makes operations of fewer numbers, and
-//! [`empty_map`] a map to which they are applied.
+//! `message` gives the message as a type, and `bytes` its encoding. [`ops`] makes operations of fewer numbers,
+//! [`empty_map`] a map to which they are applied, and [`map_of`] one of a short list.
 #![tactic(auto)]
 
 mod channel;
@@ -17,7 +17,7 @@ mod update;
 mod writing;
 
 pub use channel::Channel;
-pub use maps::empty_map;
+pub use maps::{Item, Way, charging, empty_map, free, items_of, map_of, row, up_to};
 pub use node::Node;
 pub use numbers::Numbers;
 pub use points::{point, repeated_point};

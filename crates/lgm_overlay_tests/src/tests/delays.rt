@@ -1,40 +1,29 @@
 //! Payments within limits of the delay: the sum of the deltas of a route's channels behind the first.
 
-use super::made::{Item, NOTHING, Parts, Way, map_of};
-use super::paid::{Told, assert_within, payment};
+use super::made::{NOTHING, Parts, Way, free, items_of, map_of};
+use super::paid::{Asked, Told, assert_within, payment};
 use lgm_graph::Known;
-use lgm_route::{DelayLimit, LimitedFault, RouteFault};
+use lgm_route::{RouteFault, SearchFault};
 use lgm_test_gossip::{FREE, Terms};
 use std::alloc::{AllocError, Global};
 use std::process::Abort;
 use std::test::Fail;
 
-const NO_ROUTE: Result<&[Told], LimitedFault> = Err(LimitedFault::Fault(RouteFault::NoRoute));
+const NO_ROUTE: Result<&[Told], SearchFault> = Err(SearchFault::Fault(RouteFault::NoRoute));
 
-const UNDECIDED: Result<&[Told], LimitedFault> = Err(LimitedFault::Undecided);
+pub const UNDECIDED: Result<&[Told], SearchFault> = Err(SearchFault::Undecided);
 
 /// A direction with a base fee and a delta.
-fn way(id: u64, from: u16, to: u16, base: u32, delta: u16) -> Way {
+pub fn way(id: u64, from: u16, to: u16, base: u32, delta: u16) -> Way {
+    let terms = Terms {
+        base,
+        delta,
+        ..FREE
+    };
     Way {
-        id,
-        from,
-        to,
-        terms: Terms {
-            base,
-            delta,
-            ..FREE
-        },
+        terms,
+        ..free(id, from, to)
     }
-}
-
-/// The channels of these directions.
-fn items_of(alloc: Global, ways: &[Way]) -> Result<Vec<Item>, AllocError> {
-    let mut items = Vec::new(alloc);
-    for way in ways {
-        items.push(Item::Channel(way.id, way.from.min(way.to), way.from.max(way.to)))?;
-        items.push(Item::Update(*way))?;
-    }
-    Ok(items)
 }
 
 /// That 1,000 msat over these directions and an overlay within a delay get this answer, with at most so many labels.
@@ -45,25 +34,13 @@ fn assert_answered(
     parts: Parts,
     ends: (u16, u16),
     limit: (u16, usize),
-    wanted: Result<&[Told], LimitedFault>,
+    wanted: Result<&[Told], SearchFault>,
 ) -> Result<(), AllocError> {
     let items = items_of(alloc, ways)?;
     let map = map_of(alloc, items.as_slice())?;
     let request = payment(ends.0, ends.1);
-    let limit = DelayLimit {
-        most_delay: limit.0,
-        most_labels: limit.1,
-    };
-    assert_within(
-        rt,
-        alloc,
-        &map,
-        &Known::all(),
-        parts,
-        &request,
-        &limit,
-        wanted,
-    )
+    let (known, asked) = (Known::all(), Asked::within(limit.0, limit.1));
+    assert_within(rt, alloc, &map, &known, parts, &request, &asked, wanted)
 }
 
 /// Over node 1 the payment costs nothing and delays by 100 blocks, over node 2 it costs 5 msat and delays by 10. The
@@ -97,7 +74,8 @@ fn the_cheapest_in_time(rt: HostRuntime) -> Result<(), Fail> {
     Ok(())
 }
 
-/// One label is that of the payee, and one that of node 2. Without a search none is needed.
+/// One label is that of the payee, and one that of node 2, before which there is no route so far. Without a search none is
+/// needed.
 #[test]
 fn undecided_once_there_are_that_many_labels(rt: HostRuntime) -> Result<(), Fail> {
     let alloc = rt.alloc();

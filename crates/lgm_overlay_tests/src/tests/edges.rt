@@ -1,9 +1,8 @@
 //! The edges of a view over an overlay, in the lists of the nodes that they enter and of those that they leave.
 
-use super::made::{Item, NOTHING, Parts, Way, free, map_of, overlay_of};
-use lgm_gossip::Point;
+use super::made::{Item, NOTHING, Parts, Way, free, map_of, number, overlay_of, up_to};
 use lgm_graph::{Edge, Known, OverlayView, RoutingGraph, View};
-use lgm_test_gossip::{FREE, Terms};
+use lgm_test_gossip::FREE;
 use std::alloc::{AllocError, Global};
 use std::test::Fail;
 
@@ -38,27 +37,9 @@ const OF_MAP: [Listed; 5] = [
     (9, 2, 4, MAX),
 ];
 
-/// An edge with this maximum.
-fn up_to(id: u64, from: u16, to: u16, max: u64) -> Way {
-    Way {
-        id,
-        from,
-        to,
-        terms: Terms { max, ..FREE },
-    }
-}
-
-/// The number of a node's point: its last byte.
-fn number(point: Option<&Point>) -> u16 {
-    match point {
-        Some(point) => point.0[32] as u16,
-        None => 0,
-    }
-}
-
 fn listed(view: &OverlayView, edge: &Edge) -> Listed {
-    let from = number(view.point(edge.from));
-    let to = number(view.point(edge.to));
+    let from = view.point(edge.from).map_or(0, number);
+    let to = view.point(edge.to).map_or(0, number);
     (edge.scid.to_u64(), from, to, edge.max)
 }
 
@@ -99,96 +80,59 @@ fn laid(
     Ok((edges(alloc, &over, true)?, edges(alloc, &over, false)?))
 }
 
-/// Whether these are the edges over an overlay, into and out of nodes, where all features are known.
-fn are_laid(alloc: Global, parts: Parts, wanted: &[Listed]) -> Result<bool, AllocError> {
-    let (into, out) = laid(alloc, &Known::all(), parts)?;
-    Ok(into.as_slice() == wanted && out.as_slice() == wanted)
-}
-
 #[test]
-fn without_an_overlay_the_edges_are_the_maps(rt: HostRuntime) -> Result<(), Fail> {
-    assert!(rt; are_laid(rt.alloc(), NOTHING, &OF_MAP)?);
-    Ok(())
-}
-
-#[test]
-fn a_payer_that_the_map_does_not_know_has_its_own_channel(rt: HostRuntime) -> Result<(), Fail> {
-    let parts = Parts {
-        extra: &[up_to(100, 1, 2, 5)],
-        ..NOTHING
-    };
+fn edges_over_overlays(rt: HostRuntime) -> Result<(), Fail> {
     let [a, b, c, d, e] = OF_MAP;
-    assert!(rt; are_laid(rt.alloc(), parts, &[a, b, c, d, e, (100, 1, 2, 5)])?);
-    Ok(())
-}
-
-#[test]
-fn a_hint_leads_to_an_unknown_payee(rt: HostRuntime) -> Result<(), Fail> {
-    let parts = Parts {
-        extra: &[up_to(100, 4, 8, 5), up_to(101, 8, 9, 6)],
-        ..NOTHING
-    };
-    let [a, b, c, d, e] = OF_MAP;
-    let wanted = [a, b, c, d, e, (100, 4, 8, 5), (101, 8, 9, 6)];
-    assert!(rt; are_laid(rt.alloc(), parts, &wanted)?);
-    Ok(())
-}
-
-#[test]
-fn limits_narrow_edges_and_exclude_them(rt: HostRuntime) -> Result<(), Fail> {
-    let parts = Parts {
-        extra: &[up_to(100, 1, 2, 5)],
-        limits: &[
-            (8, 3, 0),
-            (7, 2, 900),
-            (7, 2, 500),
-            (7, 2, 700),
-            (9, 2, MAX + 1),
-            (9, 4, 1),
-            (100, 1, 3),
-            (7, 77, 0),
-        ],
-        ..NOTHING
-    };
-    let [_, b, _, d, e] = OF_MAP;
-    let wanted = [(7, 2, 3, 500), b, (8, 3, 4, 0), d, e, (100, 1, 2, 3)];
-    assert!(rt; are_laid(rt.alloc(), parts, &wanted)?);
-    Ok(())
-}
-
-#[test]
-fn of_a_silent_node_only_extra_edges_are_used(rt: HostRuntime) -> Result<(), Fail> {
-    let parts = Parts {
-        extra: &[up_to(7, 3, 2, 9)],
-        silent: &[3, 77],
-        ..NOTHING
-    };
-    let [a, _, _, d, e] = OF_MAP;
-    assert!(rt; are_laid(rt.alloc(), parts, &[a, (7, 3, 2, 9), d, e])?);
-    Ok(())
-}
-
-#[test]
-fn a_node_resolves_an_id_among_its_own_channels(rt: HostRuntime) -> Result<(), Fail> {
-    let parts = Parts {
-        extra: &[up_to(7, 4, 9, 1), up_to(7, 4, 8, 2), up_to(7, 2, 9, 3)],
-        ..NOTHING
-    };
-    let [_, b, c, d, e] = OF_MAP;
-    // The first extra edge of an id out of a node counts, and it replaces the map's.
-    let wanted = [(7, 2, 9, 3), b, (7, 4, 9, 1), c, d, e];
-    assert!(rt; are_laid(rt.alloc(), parts, &wanted)?);
-    Ok(())
-}
-
-#[test]
-fn an_extra_edge_revives_a_disabled_one(rt: HostRuntime) -> Result<(), Fail> {
-    let parts = Parts {
-        extra: &[up_to(9, 4, 2, 3)],
-        ..NOTHING
-    };
-    let [a, b, c, d, e] = OF_MAP;
-    assert!(rt; are_laid(rt.alloc(), parts, &[a, b, c, d, e, (9, 4, 2, 3)])?);
+    let limits = [
+        (8, 3, 0),
+        (7, 2, 900),
+        (7, 2, 500),
+        (7, 2, 700),
+        (9, 2, MAX + 1),
+        (9, 4, 1),
+        (100, 1, 3),
+        (7, 77, 0),
+    ];
+    let own = up_to(100, 1, 2, 5);
+    let narrowed = [(7, 2, 3, 500), b, (8, 3, 4, 0), d, e, (100, 1, 2, 3)];
+    let hints = [up_to(100, 4, 8, 5), up_to(101, 8, 9, 6)];
+    let hinted = [a, b, c, d, e, (100, 4, 8, 5), (101, 8, 9, 6)];
+    let sevens = [up_to(7, 4, 9, 1), up_to(7, 4, 8, 2), up_to(7, 2, 9, 3)];
+    let rows: [(&[Way], &[(u64, u16, u64)], &[u16], &[Listed]); 7] = [
+        (&[], &[], &[], &OF_MAP),
+        // A payer that the map doesn't know has its own channel.
+        (&[own], &[], &[], &[a, b, c, d, e, (100, 1, 2, 5)]),
+        // Hints lead to an unknown payee.
+        (&hints, &[], &[], &hinted),
+        // Limits narrow edges, and exclude them.
+        (&[own], &limits, &[], &narrowed),
+        // Of a silent node only extra edges are used.
+        (
+            &[up_to(7, 3, 2, 9)],
+            &[],
+            &[3, 77],
+            &[a, (7, 3, 2, 9), d, e],
+        ),
+        // The first extra edge of an id out of a node counts, and it replaces the map's.
+        (&sevens, &[], &[], &[(7, 2, 9, 3), b, (7, 4, 9, 1), c, d, e]),
+        // An extra edge revives a disabled one.
+        (
+            &[up_to(9, 4, 2, 3)],
+            &[],
+            &[],
+            &[a, b, c, d, e, (9, 4, 2, 3)],
+        ),
+    ];
+    for (extra, limits, silent, wanted) in rows {
+        let parts = Parts {
+            extra,
+            limits,
+            silent,
+        };
+        let (into, out) = laid(rt.alloc(), &Known::all(), parts)?;
+        assert_eq!(rt; into.as_slice(), wanted);
+        assert_eq!(rt; out.as_slice(), wanted);
+    }
     Ok(())
 }
 

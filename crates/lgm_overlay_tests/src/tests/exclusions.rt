@@ -1,25 +1,19 @@
 //! What isn't used or carries less: channels that failed, amounts that they couldn't carry, and silent nodes.
 
-use super::made::{Item, NOTHING, Parts, Way, free};
-use super::paid::{
-    BACK_OVER_1, BACK_OVER_2, OVER_1, OVER_2, Told, assert_paid, charging, two_ways,
-};
-use lgm_test_gossip::{FREE, Terms};
+use super::made::{Item, NOTHING, Parts, Way, charging, free, up_to};
+use super::paid::{BACK_OVER_1, BACK_OVER_2, OVER_1, OVER_2, Told, assert_paid, two_ways};
 use std::test::Fail;
 
 #[test]
 fn a_channel_is_excluded_in_one_direction_or_in_both(rt: HostRuntime) -> Result<(), Fail> {
+    let others = [(2, 0, 0), (2, 2, 0), (2, 77, 0), (4, 1, 0), (9, 0, 0)];
     let rows: [(&[(u64, u16, u64)], [Told; 2], [Told; 2]); 5] = [
         (&[], OVER_1, BACK_OVER_1),
         (&[(2, 1, 0)], OVER_2, BACK_OVER_1),
         (&[(2, 3, 0)], OVER_1, BACK_OVER_2),
         (&[(2, 1, 0), (2, 3, 0)], OVER_2, BACK_OVER_2),
         // None of these is a channel of its node.
-        (
-            &[(2, 0, 0), (2, 2, 0), (2, 77, 0), (4, 1, 0), (9, 0, 0)],
-            OVER_1,
-            BACK_OVER_1,
-        ),
+        (&others, OVER_1, BACK_OVER_1),
     ];
     for (limits, there, back) in rows {
         let parts = Parts { limits, ..NOTHING };
@@ -49,16 +43,6 @@ fn a_limit_applies_to_what_the_channel_carries_with_fees(rt: HostRuntime) -> Res
         assert_paid(&rt, rt.alloc(), &two_ways(), parts, (0, 3), wanted)?;
     }
     Ok(())
-}
-
-/// A direction with this maximum.
-fn up_to(id: u64, from: u16, to: u16, max: u64) -> Way {
-    Way {
-        id,
-        from,
-        to,
-        terms: Terms { max, ..FREE },
-    }
 }
 
 /// Four channels from node 0 to node 3: of at most 999 msat, disabled, with a maximum above its capacity, and with an
@@ -126,6 +110,7 @@ fn a_silent_node_forwards_nothing_and_is_still_paid(rt: HostRuntime) -> Result<(
 /// nothing.
 #[test]
 fn a_silent_node_has_its_extra_edges(rt: HostRuntime) -> Result<(), Fail> {
+    let over_31 = [(1, 0, 1, 1005, 700_040), (31, 1, 3, 1000, 700_000)];
     let rows: [(&[Way], &[u16], &[Told]); 6] = [
         (&[up_to(1, 0, 1, 1009)], &[0], &[]),
         (&[up_to(1, 0, 1, 1010)], &[0], &OVER_1),
@@ -136,11 +121,7 @@ fn a_silent_node_has_its_extra_edges(rt: HostRuntime) -> Result<(), Fail> {
             &[0],
             &[(30, 0, 3, 1000, 700_000)],
         ),
-        (
-            &[charging(31, 1, 3, 5)],
-            &[1],
-            &[(1, 0, 1, 1005, 700_040), (31, 1, 3, 1000, 700_000)],
-        ),
+        (&[charging(31, 1, 3, 5)], &[1], &over_31),
     ];
     for (extra, silent, wanted) in rows {
         let parts = Parts {

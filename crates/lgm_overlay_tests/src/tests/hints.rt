@@ -1,7 +1,7 @@
 //! Extra edges: a payer's own channels, and the hints of an invoice.
 
-use super::made::{Item, NOTHING, Parts, Way, free, map_of};
-use super::paid::{OVER_1, OVER_2, Told, assert_over, assert_paid, payment, row, two_ways};
+use super::made::{Item, NOTHING, Parts, Way, free, map_of, row, up_to};
+use super::paid::{OVER_1, OVER_2, Told, assert_over, assert_paid, payment, two_ways};
 use lgm_graph::Known;
 use lgm_route::RouteFault;
 use lgm_test_gossip::{FREE, Terms};
@@ -79,28 +79,13 @@ fn a_circular_payment(rt: HostRuntime) -> Result<(), Fail> {
 #[test]
 fn one_id_out_of_several_nodes(rt: HostRuntime) -> Result<(), Fail> {
     let extra = [free(50, 1, 8), free(50, 2, 9), free(2, 2, 12)];
+    let (to_1, to_2): (Told, Told) = ((1, 0, 1, 1000, 700_040), (3, 0, 2, 1000, 700_040));
     let rows: [(&[(u64, u16, u64)], u16, &[Told]); 6] = [
-        (
-            &[],
-            8,
-            &[(1, 0, 1, 1000, 700_040), (50, 1, 8, 1000, 700_000)],
-        ),
-        (
-            &[],
-            9,
-            &[(3, 0, 2, 1000, 700_040), (50, 2, 9, 1000, 700_000)],
-        ),
-        (
-            &[],
-            12,
-            &[(3, 0, 2, 1000, 700_040), (2, 2, 12, 1000, 700_000)],
-        ),
+        (&[], 8, &[to_1, (50, 1, 8, 1000, 700_000)]),
+        (&[], 9, &[to_2, (50, 2, 9, 1000, 700_000)]),
+        (&[], 12, &[to_2, (2, 2, 12, 1000, 700_000)]),
         (&[], 3, &OVER_1),
-        (
-            &[(50, 1, 0)],
-            9,
-            &[(3, 0, 2, 1000, 700_040), (50, 2, 9, 1000, 700_000)],
-        ),
+        (&[(50, 1, 0)], 9, &[to_2, (50, 2, 9, 1000, 700_000)]),
         (&[(50, 1, 0)], 8, &[]),
     ];
     for (limits, payee, wanted) in rows {
@@ -116,12 +101,7 @@ fn one_id_out_of_several_nodes(rt: HostRuntime) -> Result<(), Fail> {
 
 /// A way from node 0 to node 3, with the id 70.
 fn direct(max: u64) -> Way {
-    Way {
-        id: 70,
-        from: 0,
-        to: 3,
-        terms: Terms { max, ..FREE },
-    }
+    up_to(70, 0, 3, max)
 }
 
 #[test]
@@ -166,11 +146,8 @@ fn features_are_asked_of_the_nodes_of_extra_edges(rt: HostRuntime) -> Result<(),
         let request = payment(payer, payee);
         assert_over(&rt, alloc, &map, &Known::all(), parts, &request, Ok(wanted))?;
         let known = Known::bits(alloc, &[0])?;
-        let wanted = if payer == 4 {
-            Ok(wanted)
-        } else {
-            Err(RouteFault::NoRoute)
-        };
+        let none = Err(RouteFault::NoRoute);
+        let wanted = if payer == 4 { Ok(wanted) } else { none };
         assert_over(&rt, alloc, &map, &known, parts, &request, wanted)?;
     }
     Ok(())
@@ -195,15 +172,8 @@ fn twenty_channels_with_extra_ones_first_and_last(rt: HostRuntime) -> Result<(),
             }
             wanted.push((101, channels + 1, payee, 1000, 700_000))?;
         }
-        let items = row(alloc, channels)?;
-        assert_paid(
-            &rt,
-            alloc,
-            items.as_slice(),
-            parts,
-            (0, payee),
-            wanted.as_slice(),
-        )?;
+        let (items, ends) = (row(alloc, channels)?, (0, payee));
+        assert_paid(&rt, alloc, &items, parts, ends, &wanted)?;
     }
     Ok(())
 }

@@ -1,8 +1,9 @@
 //! How many labels a search within a delay makes, over a made network of 400 nodes.
 
-use super::made::{Item, NOTHING, Way, map_of, overlay_of};
-use lgm_graph::{Known, Route, View};
-use lgm_route::{DelayLimit, LimitedFault, Request, answer_within};
+use super::made::{Item, Way, estimates_of, free, map_of};
+use super::paid::Asked;
+use lgm_graph::{Known, View};
+use lgm_route::{Found, Request, SearchFault, preferred_in};
 use lgm_store::Map;
 use lgm_test_gossip::{FREE, Numbers, Terms, point};
 use std::alloc::{AllocError, Global};
@@ -48,16 +49,13 @@ fn items(alloc: Global, numbers: &mut Numbers) -> Result<Vec<Item>, AllocError> 
         }
         items.push(Item::Channel(id, from.min(to), from.max(to)))?;
         for (from, to) in [(from, to), (to, from)] {
-            let mut terms = usual_terms(numbers);
-            if id % 20 == 0 {
-                terms = LURING;
-            }
-            items.push(Item::Update(Way {
-                id,
-                from,
-                to,
+            let usual = usual_terms(numbers);
+            let terms = if id % 20 == 0 { LURING } else { usual };
+            let way = Way {
                 terms,
-            }))?;
+                ..free(id, from, to)
+            };
+            items.push(Item::Update(way))?;
         }
     }
     Ok(items)
@@ -81,15 +79,20 @@ fn answer(
     request: &Request,
     most_delay: u16,
     most_labels: usize,
-) -> Result<Result<Route, LimitedFault>, AllocError> {
-    let overlay = overlay_of(alloc, NOTHING)?;
-    assert!(rt; map.count() <= 1_000_000 && overlay.extra_count() <= 1_000_000);
+) -> Result<Result<Found, SearchFault>, AllocError> {
+    assert!(rt; map.count() <= 1_000_000);
     let view = Box::new(alloc, View::of(alloc, map, &Known::all())?)?;
-    let limit = DelayLimit {
-        most_delay,
-        most_labels,
-    };
-    Ok(answer_within(alloc, map, &view, &overlay, request, &limit))
+    let estimates = estimates_of(alloc, &[])?;
+    let asked = Asked::within(most_delay, most_labels);
+    Ok(preferred_in(
+        alloc,
+        &*view,
+        &asked.preferences,
+        &estimates,
+        request,
+        &asked.limits,
+        &asked.budget,
+    ))
 }
 
 /// Whether it is decided by this many labels.
@@ -101,14 +104,10 @@ fn is_decided(
     most_delay: u16,
     most_labels: usize,
 ) -> Result<bool, AllocError> {
-    let found = answer(rt, alloc, map, request, most_delay, most_labels)?;
-    Ok(!matches!(found, Err(LimitedFault::Undecided)))
-}
-
-/// The network.
-fn made_map(alloc: Global, numbers: &mut Numbers) -> Result<Box<Map>, AllocError> {
-    let items = items(alloc, numbers)?;
-    map_of(alloc, items.as_slice())
+    match answer(rt, alloc, map, request, most_delay, most_labels)? {
+        Ok(found) => Ok(found.is_best),
+        Err(fault) => Ok(fault != SearchFault::Undecided),
+    }
 }
 
 /// A thousand labels decide each of 30 payments within each delay.
@@ -116,7 +115,7 @@ fn made_map(alloc: Global, numbers: &mut Numbers) -> Result<Box<Map>, AllocError
 fn few_labels_for_a_limit(rt: HostRuntime) -> Result<(), Fail> {
     let alloc = rt.alloc();
     let mut numbers = Numbers::new(3);
-    let map = made_map(alloc, &mut numbers)?;
+    let map = map_of(alloc, &items(alloc, &mut numbers)?)?;
     for turn in 0..30 {
         let request = payment(&mut numbers);
         for most_delay in [288, 576, 1008, 2016] {
@@ -140,10 +139,10 @@ fn least_delay(
     map: &Map,
     request: &Request,
 ) -> Result<Option<u16>, AllocError> {
-    let Ok(route) = answer(rt, alloc, map, request, u16::MAX, 100_000)? else {
+    let Ok(found) = answer(rt, alloc, map, request, u16::MAX, 100_000)? else {
         return Ok(None);
     };
-    let delay = route.expiry().saturating_sub(request.expiry);
+    let delay = found.route.expiry().saturating_sub(request.expiry);
     match u16::try_from(delay) {
         Ok(delay) if delay > 0 => Ok(Some(delay)),
         _ => Ok(None),
@@ -171,7 +170,7 @@ fn suffices(
 fn few_labels_just_below(rt: HostRuntime) -> Result<(), Fail> {
     let alloc = rt.alloc();
     let mut numbers = Numbers::new(3);
-    let map = made_map(alloc, &mut numbers)?;
+    let map = map_of(alloc, &items(alloc, &mut numbers)?)?;
     let mut place = 0;
     for _turn in 0..12 {
         let request = payment(&mut numbers);

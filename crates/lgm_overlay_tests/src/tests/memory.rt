@@ -3,14 +3,15 @@
 ghost use Rattle.std.specs.Prelude.{◌+◌, ◌*◌, ◌^◌, ◌<◌, length};
 ghost use Rattle.lgm_graph.specs.Graph.{IsGraphOf};
 
-use super::made::{Parts, free, map_of, overlay_of};
-use super::paid::{Told, assert_answer, limited, payment, two_ways};
-use lgm_graph::{Known, Overlay, View};
+use super::made::{Parts, estimates_of, free, map_of, overlay_of};
+use super::paid::{Asked, Told, assert_answer, limited, payment, route_of, two_ways};
+use lgm_graph::{Estimates, Known, Overlay, View};
 use lgm_par::{Open, Pool};
 use lgm_route::{
-    DelayLimit, LimitedFault, Route, RouteFault, answer_over, answer_over_chunked, answer_within,
+    Preferences, Route, RouteFault, SearchFault, answer_over, answer_over_chunked, answer_preferred,
 };
 use lgm_store::Map;
+use std::process::Abort;
 use std::thread::Threads;
 
 /// Over an own channel, two channels of the map, and a hint. It delays by 120 blocks.
@@ -26,17 +27,23 @@ const WANTED: [Told; 4] = [
 enum Call {
     Over,
     OverChunked,
-    Within(u16),
+    Within(u16, Preferences),
 }
 
+const PREFERENCES: Preferences = Preferences {
+    failure_msat: 20_000,
+    hop_msat: 500,
+};
+
 /// The answer to the payment; if memory is refused, that of the next call.
-fn answer_or_again<Rt: Threads + Sync>(
+fn answer_or_again<Rt: Abort + Threads + Sync>(
     pool: &Pool<'_, Rt, Open>,
     map: &Map,
     view: &View,
     overlay: &Overlay,
+    estimates: &Estimates,
     call: Call,
-) -> Result<Route, LimitedFault>
+) -> Result<Route, SearchFault>
     requires beside { IsGraphOf map.now view.now }
     requires few { length view.now.points + 2 * length overlay.now.extra < 2 ^ 32 }
 {
@@ -45,19 +52,27 @@ fn answer_or_again<Rt: Threads + Sync>(
         let answer = match call {
             Call::Over => limited(answer_over(pool.alloc, map, view, overlay, &request)),
             Call::OverChunked => limited(answer_over_chunked(pool, map, view, overlay, &request)),
-            Call::Within(most_delay) => {
-                let limit = DelayLimit {
-                    most_delay,
-                    most_labels: 100,
-                };
-                answer_within(pool.alloc, map, view, overlay, &request, &limit)
+            Call::Within(most_delay, preferences) => {
+                let asked = Asked::within(most_delay, 100);
+                let answer = answer_preferred(
+                    pool.alloc,
+                    map,
+                    view,
+                    overlay,
+                    &preferences,
+                    estimates,
+                    &request,
+                    &asked.limits,
+                    &asked.budget,
+                );
+                route_of(pool.rt, answer, true)
             }
         };
-        if !matches!(answer, Err(LimitedFault::Fault(RouteFault::NoMemory))) {
+        if !matches!(answer, Err(SearchFault::Fault(RouteFault::NoMemory))) {
             return answer;
         }
     }
-    Err(LimitedFault::Fault(RouteFault::NoMemory))
+    Err(SearchFault::Fault(RouteFault::NoMemory))
 }
 
 #[test]
@@ -85,15 +100,29 @@ fn refused_memory(rt: HostRuntime) {
         workers: 3,
         gate: &Open,
     };
-    for call in [Call::Over, Call::OverChunked, Call::Within(120)] {
-        let answer = answer_or_again(&pool, &map, &view, &overlay, call);
-        if assert_answer(&rt, alloc, &answer, Ok(&WANTED)).is_err() {
+    let (Ok(nothing), Ok(learnt)) = (
+        estimates_of(alloc, &[]),
+        estimates_of(alloc, &[(2, 1, 900, 1_100, 7), (91, 3, 0, 999, 0)]),
+    ) else {
+        return;
+    };
+    let plain = Preferences::none();
+    let none = Err(SearchFault::Fault(RouteFault::NoRoute));
+    for (call, estimates, wanted) in [
+        (Call::Over, &nothing, Ok(WANTED.as_slice())),
+        (Call::OverChunked, &nothing, Ok(WANTED.as_slice())),
+        (Call::Within(120, plain), &nothing, Ok(WANTED.as_slice())),
+        (Call::Within(119, plain), &nothing, none),
+        (
+            Call::Within(120, PREFERENCES),
+            &learnt,
+            Ok(WANTED.as_slice()),
+        ),
+        (Call::Within(119, PREFERENCES), &learnt, none),
+    ] {
+        let answer = answer_or_again(&pool, &map, &view, &overlay, estimates, call);
+        if assert_answer(&rt, alloc, &answer, wanted).is_err() {
             return;
         }
-    }
-    let none = Err(LimitedFault::Fault(RouteFault::NoRoute));
-    let answer = answer_or_again(&pool, &map, &view, &overlay, Call::Within(119));
-    if assert_answer(&rt, alloc, &answer, none).is_err() {
-        return;
     }
 }

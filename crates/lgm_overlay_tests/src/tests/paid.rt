@@ -1,15 +1,14 @@
 //! Payments over overlays, with the answers that they get.
 
-use super::made::{Item, Parts, Way, free, map_of, overlay_of};
-use lgm_gossip::Point;
-use lgm_graph::{Known, View};
+use super::made::{Item, Parts, charging, estimates_of, map_of, number, overlay_of};
+use lgm_graph::{Estimates, Known, View};
 use lgm_par::{Open, Pool};
 use lgm_route::{
-    DelayLimit, LimitedFault, Request, Route, RouteFault, answer_over, answer_over_chunked,
-    answer_within,
+    Found, Preferences, Request, Route, RouteFault, RouteLimits, SearchBudget, SearchFault,
+    answer_over, answer_over_chunked, answer_preferred,
 };
 use lgm_store::Map;
-use lgm_test_gossip::{FREE, Terms, point};
+use lgm_test_gossip::point;
 use std::alloc::{AllocError, Global};
 use std::fmt;
 use std::process::Abort;
@@ -18,16 +17,6 @@ use std::thread::Threads;
 
 /// A hop: its channel id, the numbers of its nodes, its amount in msat and its expiry.
 pub type Told = (u64, u16, u16, u64, u32);
-
-/// A direction with a base fee.
-pub fn charging(id: u64, from: u16, to: u16, base: u32) -> Way {
-    Way {
-        id,
-        from,
-        to,
-        terms: Terms { base, ..FREE },
-    }
-}
 
 /// Two ways from node 0 to node 3: over node 1, which charges 10 msat, and over node 2, which charges 50 msat. Back,
 /// node 1 charges 7 msat, and node 2 charges 9 msat. Node 0 charges 3 msat, and node 3 charges 20 msat.
@@ -68,11 +57,6 @@ pub fn payment(payer: u16, payee: u16) -> Request {
     }
 }
 
-/// The number of a node's point: its last byte.
-fn number(point: &Point) -> u16 {
-    u16::from(point.0[32])
-}
-
 /// The hops of a route.
 fn hops_of(alloc: Global, route: &Route) -> Result<Vec<Told>, AllocError> {
     let mut hops = Vec::new(alloc);
@@ -99,7 +83,71 @@ pub fn assert_answer<F: Copy + PartialEq + fmt::Debug>(
     Ok(())
 }
 
-/// That a payment over an overlay within a limit of the delay gets this answer.
+/// What a payer prefers, and what is asked of a route and of its search.
+#[derive(Clone, Copy)]
+pub struct Asked {
+    pub preferences: Preferences,
+    pub limits: RouteLimits,
+    pub budget: SearchBudget,
+}
+
+impl Asked {
+    /// Without preferences, within a delay, and by so many labels.
+    pub fn within(most_delay: u16, most_labels: usize) -> Asked {
+        Asked {
+            preferences: Preferences::none(),
+            limits: RouteLimits {
+                most_delay: Some(most_delay),
+                ..RouteLimits::none()
+            },
+            budget: SearchBudget {
+                most_labels,
+                ..SearchBudget::any()
+            },
+        }
+    }
+}
+
+/// The answer to a payment over an overlay.
+pub fn found_over(
+    rt: &impl Abort,
+    alloc: Global,
+    map: &Map,
+    known: &Known,
+    parts: Parts,
+    estimates: &Estimates,
+    request: &Request,
+    asked: &Asked,
+) -> Result<Result<Found, SearchFault>, AllocError> {
+    assert!(rt; map.count() <= 1_000_000);
+    let view = Box::new(alloc, View::of(alloc, map, known)?)?;
+    let overlay = overlay_of(alloc, parts)?;
+    assert!(rt; overlay.extra_count() <= 1_000_000);
+    Ok(answer_preferred(
+        alloc,
+        map,
+        &view,
+        &overlay,
+        &asked.preferences,
+        estimates,
+        request,
+        &asked.limits,
+        &asked.budget,
+    ))
+}
+
+/// The route of an answer, which has to be told as the best one, or as one so far.
+pub fn route_of(
+    rt: &impl Abort,
+    answer: Result<Found, SearchFault>,
+    is_best: bool,
+) -> Result<Route, SearchFault> {
+    let found = answer?;
+    assert_eq!(rt; found.is_best, is_best);
+    Ok(found.route)
+}
+
+/// That a payment over an overlay of a payer that knows of no edge gets this answer.
 pub fn assert_within(
     rt: &impl Abort,
     alloc: Global,
@@ -107,29 +155,17 @@ pub fn assert_within(
     known: &Known,
     parts: Parts,
     request: &Request,
-    limit: &DelayLimit,
-    wanted: Result<&[Told], LimitedFault>,
+    asked: &Asked,
+    wanted: Result<&[Told], SearchFault>,
 ) -> Result<(), AllocError> {
-    assert!(rt; map.count() <= 1_000_000);
-    let view = Box::new(alloc, View::of(alloc, map, known)?)?;
-    let overlay = overlay_of(alloc, parts)?;
-    assert!(rt; overlay.extra_count() <= 1_000_000);
-    let answer = answer_within(alloc, map, &view, &overlay, request, limit);
-    assert_answer(rt, alloc, &answer, wanted)
+    let estimates = estimates_of(alloc, &[])?;
+    let answer = found_over(rt, alloc, map, known, parts, &estimates, request, asked)?;
+    assert_answer(rt, alloc, &route_of(rt, answer, true), wanted)
 }
 
-/// A limit that no route of a test reaches.
-pub const NO_LIMIT: DelayLimit = DelayLimit {
-    most_delay: u16::MAX,
-    most_labels: 0,
-};
-
 /// What a call within a limit answers where the limit makes no difference.
-pub fn limited<T>(answer: Result<T, RouteFault>) -> Result<T, LimitedFault> {
-    match answer {
-        Ok(hops) => Ok(hops),
-        Err(fault) => Err(LimitedFault::Fault(fault)),
-    }
+pub fn limited<T>(answer: Result<T, RouteFault>) -> Result<T, SearchFault> {
+    Ok(answer?)
 }
 
 /// That a payment over an overlay gets this answer, also from 1, 3 and 64 workers, and within a limit that no route
@@ -159,8 +195,9 @@ pub fn assert_over<Rt: Abort + Threads + Sync>(
         let answer = answer_over_chunked(&pool, map, &view, &overlay, request);
         assert_answer(rt, alloc, &answer, wanted)?;
     }
-    let answer = answer_within(alloc, map, &view, &overlay, request, &NO_LIMIT);
-    assert_answer(rt, alloc, &answer, limited(wanted))
+    // Each route is within the limit, so that no search by labels is made.
+    let (asked, wanted) = (Asked::within(u16::MAX, 0), limited(wanted));
+    assert_within(rt, alloc, map, known, parts, request, &asked, wanted)
 }
 
 /// That 1,000 msat over an overlay on a map, where all features are known, take this route, or none.
@@ -181,15 +218,4 @@ pub fn assert_paid<Rt: Abort + Threads + Sync>(
     };
     assert_over(rt, alloc, &map, &Known::all(), parts, &request, wanted)?;
     Ok(())
-}
-
-/// A row of free channels from node 1 on, each to the next node, whose id is that of its first node.
-pub fn row(alloc: Global, channels: u16) -> Result<Vec<Item>, AllocError> {
-    let mut items = Vec::new(alloc);
-    for node in 1..=channels.min(100) {
-        let id = u64::from(node);
-        items.push(Item::Channel(id, node, node + 1))?;
-        items.push(Item::Update(free(id, node, node + 1)))?;
-    }
-    Ok(items)
 }

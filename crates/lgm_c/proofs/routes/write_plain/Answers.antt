@@ -16,7 +16,7 @@ returns-clause-route c =
     let old = buffers c.args.hops.now c.args.payloads.now c.args.lengths.now in
     let new = buffers c.write_tried.new.hops c.write_tried.new.payloads c.write_tried.new.lengths in
     let keyed = subst (λ (rows : Rows). AreKeyed (overlaid_edges state.known rows no_overlay)) c.map.ensures
-        (c.overlays_are_lawful.ensures.keyed state.known c.map.result.now no_overlay c.rows_are_lawful.ensures.ascend) in
+    (c.overlays_are_lawful.ensures.keyed state.known c.map.result.now no_overlay c.rows_are_lawful.ensures.ascend) in
     writes_best (route_over plain state.known state.rows) (route_asked payment state.known state.rows)
     (MayStop plain state.known state.rows) (IsRouteFor plain state.known state.rows) payment.secret c.write_tried.result old new
     (never_stops payment state.known state.rows)
