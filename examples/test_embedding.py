@@ -534,9 +534,8 @@ def wide_edges(sides, stages, lgm):
     return own.start, at(2 + stages), [own, *edges]
 
 
-def test_undecided():
-    """Where labels or steps don't suffice, the payment is undecided within a delay that all cheap routes exceed, and only
-    there."""
+def test_so_far():
+    """Where steps don't suffice, the payment gets a route so far within a delay that all cheap routes exceed, and only there."""
     import lgm
 
     payer, payee, edges = wide_edges(6_000, 8, lgm)
@@ -546,9 +545,10 @@ def test_undecided():
                  for one in (network, published)]
         limits = [lgm.Limit(1, edges[1].start)]
         dear = routed(network, payment, lgm, edges=edges, limits=limits, most_delay=1_008)
-    right = all(word == "undecided" and within == any_delay and within.sent_msat == 10_000 and within.expiry == 701_455
-                for word, within, any_delay in found)
-    report("lgm.py, undecided", right and (dear.sent_msat, dear.expiry) == (1_010_000, 700_255))
+    right = all(not so_far.is_best and 1_010_000 <= so_far.sent_msat <= 1_010_255 and so_far.expiry <= 701_008
+                and within == any_delay and within.sent_msat == 10_000 and within.expiry == 701_455
+                for so_far, within, any_delay in found)
+    report("lgm.py, a route so far", right and (dear.sent_msat, dear.expiry) == (1_010_000, 700_255))
 
 
 def test_one_class():
@@ -632,7 +632,7 @@ def main():
         test_threads()
         test_published()
         test_overlays()
-        test_undecided()
+        test_so_far()
         test_one_class()
         test_recipes(out)
         test_dump()

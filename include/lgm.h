@@ -353,7 +353,7 @@ typedef struct {
 #define LGM_MOST_EDGES 100000
 
 /* The most steps and labels of a search, if the call doesn't say. */
-#define LGM_MOST_STEPS 20000000
+#define LGM_MOST_STEPS 5000000
 #define LGM_MOST_LABELS 1000000
 
 /*

@@ -27,7 +27,7 @@ CHANGES = (
      "function lgm_route: "),
     ("const lgm_point *silent, size_t silent_len", "const lgm_limit *silent, size_t silent_len", "function lgm_route_over: "),
     ("#define LGM_MOST_LABELS 1000000", "#define LGM_MOST_LABELS 2000000", "constant LGM_MOST_LABELS: 2000000"),
-    ("#define LGM_MOST_STEPS 20000000", "#define LGM_MOST_STEPS 0x1312d00", "constant LGM_MOST_STEPS: 0"),
+    ("#define LGM_MOST_STEPS 5000000", "#define LGM_MOST_STEPS 0x4c4b40", "constant LGM_MOST_STEPS: 0"),
     ("    LGM_SO_FAR = 27,", "    LGM_SO_FAR = 28,", "constant LGM_SO_FAR: 28"),
     ("uint64_t most_steps;   ", "size_t most_steps;   ", "struct lgm_search: "),
     ("    uint16_t most_delay; ", "    uint32_t most_delay; ", "struct lgm_search: "),

@@ -206,15 +206,17 @@ def wide_network():
 
 
 @test
-def undecided():
-    """Where the steps that a search takes by default don't suffice, a payment is undecided, and only there."""
+def stopped():
+    """Where the steps that a search takes by default don't suffice, a payment gets a route so far, and only there."""
     handles = both_kinds()
     edges, payee = wide_network(), node(10)
     # Within 1,008 blocks each of the nodes side by side has 256 ways to the payee, of which none is cheaper and quicker than
     # another, and all of which are cheaper than what the first node charges. These are 1,536,000 labels, each of which is
-    # compared with all earlier ones of its node. Within 1,455 blocks the best route of all is one, and so it is within 1,008
-    # without the edges that delay by 600.
-    assert answer_of_both(handles, payee, edges=edges, asked=search(most_delay=1_008)) == refusal(26)
+    # compared with all earlier ones of its node. Any walk that fits pays the first node, and delays or pays at each pair of
+    # edges. Within 1,455 blocks the best route of all is one, and so it is within 1,008 without the edges that delay by 600.
+    number, hops, scid, amount, expiry = answer_of_both(handles, payee, edges=edges, asked=search(most_delay=1_008))
+    assert (number, hops, scid) == (27, 12, 1)
+    assert 1_010_000 <= amount <= 1_010_255 and amount + expiry == 1_010_000 + 700_255
     free_of_charge = 0, 13, 1, 10_000, 701_455
     assert answer_of_both(handles, payee, edges=edges, asked=search(most_delay=1_455)) == free_of_charge
     assert answer_of_both(handles, payee, edges=edges) == free_of_charge

@@ -68,11 +68,11 @@ limits_given search = record {
   most_hops = or_default 20 search.most_hops;
 }
 
--- 0 labels are a million, and 0 steps twenty million
+-- 0 labels are a million, and 0 steps five million
 abbrev pub budget_given : LgmSearch → SearchBudget
 budget_given search = record {
   most_labels = or_default 1000000 search.most_labels;
-  most_steps = or_default 20000000 search.most_steps;
+  most_steps = or_default 5000000 search.most_steps;
 }
 
 -- all zeros

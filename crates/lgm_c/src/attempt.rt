@@ -15,7 +15,7 @@ use std::marker::Model;
 pub(crate) const MOST_EDGES: usize = 100_000;
 
 /// The most steps of a search for which none are given: some 0.2 seconds.
-pub(crate) const MOST_STEPS: u64 = 20_000_000;
+pub(crate) const MOST_STEPS: u64 = 5_000_000;
 
 /// The most labels of such a search: some 50 MB.
 pub(crate) const MOST_LABELS: usize = 1_000_000;
@@ -67,7 +67,7 @@ pub struct LgmPoint {
 #[repr(C)]
 #[derive(Clone, Copy)]
 pub struct LgmSearch {
-    /// The most steps: edges looked at, and labels compared. 0 stands for 20,000,000.
+    /// The most steps: edges looked at, and labels compared. 0 stands for 5,000,000.
     pub most_steps: u64,
     /// The most labels. 0 stands for 1,000,000.
     pub most_labels: usize,

@@ -63,9 +63,15 @@ fn lower_at(dist: &mut Vec<u64>, closed: &mut Vec<bool>, node: usize, amount: u1
     true
 }
 
-/// What an edge adds: its fee for the request's amount or its delay, or 0 if the edge is the payer's own.
+/// What an edge adds: its fee for the request's amount or its delay, or 0 if the edge is the payer's own. The penalty is left
+/// out if the fee alone is as much as what lowers nothing.
 #[inline(always)]
-fn charge<P: Penalties>(measure: Measure, request: &NumberedRequest<P>, edge: &Edge) -> u128
+fn charge<P: Penalties>(
+    measure: Measure,
+    request: &NumberedRequest<P>,
+    edge: &Edge,
+    most: u128,
+) -> u128
     ensures first { edge.now.from ≡ request.now.payer → result ≡ 0 }
     ensures most { result ≤ charged measure (asked (P.terms request.now.penalties) request.now) edge.now }
     ensures low { result < 2 ^ 98 }
@@ -75,8 +81,11 @@ fn charge<P: Penalties>(measure: Measure, request: &NumberedRequest<P>, edge: &E
     }
     match measure {
         Measure::Fees => {
-            let penalty = request.penalties.add(0, edge, request.amount);
-            fee(request.amount, edge.base, edge.millionths) + penalty as u128
+            let fee = fee(request.amount, edge.base, edge.millionths);
+            if most <= fee {
+                return fee;
+            }
+            fee + request.penalties.add(0, edge, request.amount) as u128
         }
         Measure::Delays => request.counted(edge) as u128,
     }
@@ -200,7 +209,11 @@ impl<'a, V: RoutingGraph, P: Penalties> ForwardSearch<'a, V, P> {
         {
             return Ok(());
         }
-        if self.lower(edge.to, start as u128 + charge(self.measure, request, edge))? {
+        let most = (self.fees_to(edge.to) as u128).saturating_sub(start as u128);
+        if self.lower(
+            edge.to,
+            start as u128 + charge(self.measure, request, edge, most),
+        )? {
             self.queue(edge.to, edge.scid)?;
         }
         Ok(())

@@ -238,7 +238,7 @@ impl<'a, V: RoutingGraph, P: Penalties> Search<'a, V, P> {
 }
 
 /// The number of labels without a walk behind which a quick walk is looked for.
-const PATIENCE: usize = 20_000;
+const PATIENCE: usize = 4_000;
 
 /// The maximum number of dives of a search.
 const MOST_DIVES: u32 = 64;
