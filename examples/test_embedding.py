@@ -249,7 +249,7 @@ def test_python():
     for number, word in words.items():
         lgm._load().lgm_word(number, word)
     words = {number: word.value.decode() for number, word in words.items() if word.value}
-    report("lgm.py, words", words == {number: kind.word for number, kind in lgm._FAULTS.items()})
+    report("lgm.py, words", words == {27: "so-far", **{number: kind.word for number, kind in lgm._FAULTS.items()}})
     for workload in ("routes", "queries"):
         script = made_script(workload)
         with lgm.Map(bytes.fromhex(CHAIN)) as network:

@@ -60,7 +60,7 @@ def an_invoice_is_paid():
 
     def send(route):
         sent.append(([hop.scid >> 40 for hop in route.hops], route.sent_msat, route.expiry))
-        return route.hops[1] if len(sent) == 1 else None
+        return 1 if len(sent) == 1 else None
 
     payer, payee, sent = point(1), point(2), []
     hint = SimpleNamespace(scid=7 << 40, node=point(13), next=payee, base=700, millionths=0, delta=40)
@@ -69,12 +69,15 @@ def an_invoice_is_paid():
                 for scid, peer, can_send, is_connected in (
                     (1, point(11), 11_000_000, True), (2, point(13), 10_000_699, True), (3, point(13), 11_000_000, False))]
     names = {"network": None, "payer": payer, "channels": channels, "invoice": invoice, "height": 700_000, "most_fee": 10_000,
-             "send": send, "Edge": lgm.Edge, "Limit": lgm.Limit}
-    with lgm.Map(CHAIN) as names["network"]:
+             "send": send, "Edge": lgm.Edge, "Limit": lgm.Limit, "Preferences": lgm.Preferences}
+    with lgm.Map(CHAIN) as names["network"], lgm.Estimates() as names["estimates"]:
         for item in items_of((HERE / "payments.txt").read_text()):
             names["network"].offer(*item)
         exec(block("own = [Edge(c.scid, payer, c.peer, htlc_maximum_msat=c.can_send) for c in channels if c.is_connected]",
                    "operating"), names)
+        learnt = {scid >> 40: (known.least_msat, known.most_msat) for scid, _, known in names["estimates"]}
+    # What the first try sent over its hop failed; the second one's public hops carried theirs. Nothing is learnt of the others.
+    assert learnt == {600_003: (0, 10_000_699), 600_001: (10_004_200, 2**64 - 1), 600_002: (10_000_700, 2**64 - 1)}
     # D takes 700. Then B takes 3,000 and 10 blocks; or C 500 and 300 ppm and 20 blocks, and B 1,000 and 200 ppm and 34.
     assert sent == [
         ([1, 600_003, 7], 10_003_700, 700_021 + 40 + 10), ([1, 600_001, 600_002, 7], 10_007_200, 700_021 + 40 + 20 + 34)]
