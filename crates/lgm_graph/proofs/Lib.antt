@@ -24,11 +24,13 @@ pub mod ViewEdgeLaws
 mod Counted
 mod Keys
 pub mod OverlayLaws
-mod Further
+pub mod Further
 mod ByNumber
 mod LentLists
+pub mod PlaceLaws
 mod TouchedNodeLaws
 mod SayingLaws
 mod Laid
 mod OverlayViewLaws
 mod EstimateLaws
+mod FilterLaws

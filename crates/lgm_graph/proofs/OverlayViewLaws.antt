@@ -21,7 +21,8 @@ use Rattle.lgm_graph.specs.Edges.{PointEdge, carrying, takes_payments}
 use Rattle.lgm_graph.specs.Graph.{Graph, GraphNode, Shows, IsGraphOf, IsJoined, IsNumbered, bare_node, node_at, node_with, number_of, numbered_in, edges_leaving, edges_with, point_edges}
 use Rattle.lgm_graph.specs.Overlay.{OverlayParts, is_used, firsts, limited, overlaid_edges}
 use Rattle.lgm_graph.specs.inner.Overlaying.{Said, Touched, ArePlaced, IsTouchedMore, AreReached, LeadsTo, AreSaid, IsSaid, sayings_of}
-use Rattle.lgm_graph.specs.inner.Overlaying.{nothing_of, at_place, place_of, said_of, laid_at, laid_by, laid_list, list_or, graph_over, node_over, extra_over}
+use Rattle.lgm_graph.specs.Places.{at_place}
+use Rattle.lgm_graph.specs.inner.Overlaying.{nothing_of, place_of, said_of, laid_at, laid_by, laid_list, list_or, graph_over, node_over, extra_over}
 use Rattle.lgm_graph.specs.inner.Sound.{IsSound}
 use Rattle.lgm_graph.proofs.ChangeLaws.{node_is}
 use Rattle.lgm_graph.proofs.NewNumberLaws.{number_at}

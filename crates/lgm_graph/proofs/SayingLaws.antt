@@ -20,7 +20,8 @@ use Rattle.lgm_graph.specs.Edges.{PointEdge}
 use Rattle.lgm_graph.specs.Graph.{edges_with, number_of, IsNumbered, numbered_in}
 use Rattle.lgm_graph.specs.Overlay.{OverlayParts, has_key, is_named, with_first, firsts, extra_edge, at_most, most_of, limited}
 use Rattle.lgm_graph.specs.inner.Overlaying.{Said, Touched, Sayings, IsSaid, AreSaid, AreHeard, sayings_of, extra_over}
-use Rattle.lgm_graph.specs.inner.Overlaying.{nothing_of, at_place, place_of, said_of, heard, has_id, most_in}
+use Rattle.lgm_graph.specs.Places.{at_place}
+use Rattle.lgm_graph.specs.inner.Overlaying.{nothing_of, place_of, said_of, heard, has_id, most_in}
 use Rattle.lgm_graph.proofs.Further.{not_numbered}
 use Rattle.lgm_graph.proofs.Keys.{or_false, firsts_name}
 use Rattle.lgm_graph.proofs.NewNumberLaws.{number_at}

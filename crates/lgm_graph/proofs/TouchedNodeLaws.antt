@@ -10,34 +10,11 @@ use Rattle.lgm_store.proofs.ListLaws.{All-to, All-append}
 use Rattle.lgm_graph.specs.declared.edge.Edge.{Edge}
 use Rattle.lgm_graph.specs.Graph.{Graph, edges_leaving}
 use Rattle.lgm_graph.specs.inner.Overlaying.{Said, Touched, ArePlaced, IsTouchedMore, LeadsTo, IsReached, AreReached, IsBare}
-use Rattle.lgm_graph.specs.inner.Overlaying.{nothing_of, at_place, place_of, said_of, used_places, laid_at}
+use Rattle.lgm_graph.specs.Places.{at_place}
+use Rattle.lgm_graph.specs.inner.Overlaying.{nothing_of, place_of, said_of, laid_at}
 use Rattle.lgm_graph.proofs.Further.{slice_left}
+use Rattle.lgm_graph.proofs.PlaceLaws.{used_none, used_set, used_less, slice_last}
 use Rattle.lgm_graph.proofs.Members.{Among-Contains, All_among}
-
--- ---- numbers of places
-
-pub used_none : (places : List ℕ) → ((n : ℕ) → get_or places n 0 ≡ 0) → used_places places ≡ 0
-used_none [] none = refl
-used_none (zero ∷ ks) none = used_none ks (λ n. none (suc n))
-used_none (suc k ∷ ks) none = absurd (let h : suc k ≡ 0 = none 0 in omega (arith, h))
-
-used_le : (places : List ℕ) → used_places places ≤ length places
-used_le [] = omega arith
-used_le (zero ∷ ks) = let rest = used_le ks in omega (arith, rest)
-used_le (suc k ∷ ks) = let rest = used_le ks in omega (arith, rest)
-
--- one more place is used
-used_set : (places : List ℕ) (n k : ℕ) → n < length places → get_or places n 0 ≡ 0 → used_places (set places n (suc k)) ≡ suc (used_places places)
-used_set [] n k lt none = absurd (omega (arith, lt))
-used_set (zero ∷ ks) zero k lt none = refl
-used_set (suc j ∷ ks) zero k lt none = absurd (let h : suc j ≡ 0 = none in omega (arith, h))
-used_set (zero ∷ ks) (suc n) k lt none = used_set ks n k (omega (arith, lt)) none
-used_set (suc j ∷ ks) (suc n) k lt none = ap suc (used_set ks n k (omega (arith, lt)) none)
-
-pub used_less : (places : List ℕ) (n : ℕ) → n < length places → get_or places n 0 ≡ 0 → used_places places < length places
-used_less places n lt none =
-    let more = used_le (set places n (suc 0)) in
-    omega (arith, more, used_set places n 0 lt none, length-set places n (suc 0))
 
 pub none_placed : (places : List ℕ) → ((n : ℕ) → get_or places n 0 ≡ 0) → length places < 2 ^ 32
     → ArePlaced (record { places = places; nodes = [] })
@@ -46,10 +23,6 @@ none_placed places none few = record {
   count = sym (used_none places none);
   few = few;
 }
-
-slice_last : {X : Type 0} (xs : List X) (x : X) → slice_get (xs ++ x ∷ []) (length xs) ≡ Some x
-slice_last [] x = refl
-slice_last (y ∷ ys) x = slice_last ys x
 
 -- ---- a further node
 

@@ -3,6 +3,7 @@ pub mod Estimates
 pub mod Known
 pub mod Edges
 pub mod Graph
+pub mod Places
 pub mod Overlay
 pub mod Network
 pub mod Pending

@@ -4,3 +4,4 @@ pub mod Sound
 pub mod Walk
 pub mod Applying
 pub mod Overlaying
+pub mod Filtering

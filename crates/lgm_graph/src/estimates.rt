@@ -4,6 +4,7 @@ ghost use Rattle.std.specs.Prelude.{◌≡◌, [], length, slice_get, false, IfO
 ghost use Rattle.std.specs.Option.{is_some};
 ghost use Rattle.lgm_graph.specs.Estimates.{IsEstimated, IsForgotten, carried, failed, estimate_of, known_of};
 
+use crate::edge_filter::EdgeFilter;
 use crate::estimate::{EdgeKey, Estimate, NO_ESTIMATE};
 use indexmap::IndexMap;
 use lgm_gossip::{Point, Scid};
@@ -18,6 +19,7 @@ use std::marker::Model;
 #[derive(Drop)]
 pub struct Estimates {
     entries: IndexMap<EdgeKey, Estimate>,
+    filter: EdgeFilter,
 }
 
 impl Model for Estimates {
@@ -25,7 +27,11 @@ impl Model for Estimates {
 
     ghost Value = { Entries };
 
+    ghost use Rattle.lgm_graph.specs.inner.Filtering.{Covers};
+
     ghost view = { λ e. e.entries.entries };
+
+    ghost invariant = { λ e. Covers e.filter e.entries.entries };
 }
 
 impl Estimates {
@@ -35,28 +41,33 @@ impl Estimates {
     {
         Estimates {
             entries: IndexMap::new(alloc),
+            filter: EdgeFilter::new(alloc),
         }
     }
 
-    /// What is believed of the edge with an id out of a node; if nothing is known of it, [`NO_ESTIMATE`]. Costs a lookup
-    /// by the hash of the id, and allocates nothing.
+    /// What is believed of the edge with an id out of a node; if nothing is known of it, [`NO_ESTIMATE`]. Costs a look at
+    /// one bit, and a lookup by the hash of the id if that is set, and allocates nothing.
     #[inline(always)]
     pub fn get(&self, scid: Scid, from: &Point) -> Estimate
         ensures { result ≡ estimate_of self.now scid from.now }
     {
+        if !self.filter.may_have(scid, from) {
+            return NO_ESTIMATE;
+        }
         match self.entries.get(&EdgeKey { scid, from: *from }) {
             Some(estimate) => *estimate,
             None => NO_ESTIMATE,
         }
     }
 
-    /// Sets what is believed of an edge. The only error is out of memory, which changes nothing; of an edge of which
-    /// something is known it never comes.
+    /// Sets what is believed of an edge. The first one takes 32 KiB beside its entry. The only error is out of memory, which
+    /// changes nothing; of an edge of which something is known it never comes.
     pub fn set(&mut self, scid: Scid, from: &Point, estimate: Estimate) -> Result<(), AllocError>
         ensures set { OnOk result (IsEstimated self.old scid from.now estimate self.new) }
         ensures new { OnErr result (is_some (known_of self.old scid from.now) ≡ false) }
         ensures stays { OnErr result (self.new ≡ self.old) }
     {
+        self.filter.note(scid, from)?;
         self.entries
             .insert(EdgeKey { scid, from: *from }, estimate)?;
         Ok(())
@@ -120,6 +131,7 @@ impl Estimates {
     {
         Ok(Estimates {
             entries: self.entries.clone()?,
+            filter: self.filter.copy()?,
         })
     }
 }

@@ -9,6 +9,7 @@
 #![tactic(auto)]
 
 mod edge;
+mod edge_filter;
 mod edges;
 mod estimate;
 mod estimates;

@@ -169,6 +169,7 @@ impl Network {
         ensures admission { Offers result (admitted self.old.rows message) }
         ensures accepted { IfOk result (λ op. self.new.rows ≡ absorbed self.old.rows op) }
         ensures known { self.new.known ≡ self.old.known }
+        ensures view { OnOk result (GoesOn self.old.rows self.old.graph self.new.graph) }
         ensures refused { OnErr result (self.new ≡ self.old) }
     {
         self.offer_at(alloc, message, Hint::none())
@@ -185,6 +186,7 @@ impl Network {
         ensures admission { Offers result (admitted self.old.rows message) }
         ensures accepted { IfOk result (λ op. self.new.rows ≡ absorbed self.old.rows op) }
         ensures known { self.new.known ≡ self.old.known }
+        ensures view { OnOk result (GoesOn self.old.rows self.old.graph self.new.graph) }
         ensures refused { OnErr result (self.new ≡ self.old) }
     {
         if self.parts.view.is_none() {
@@ -201,6 +203,7 @@ impl Network {
         ensures admission { Offers result (admitted_close self.old.rows scid) }
         ensures accepted { IfOk result (λ op. self.new.rows ≡ absorbed self.old.rows op) }
         ensures known { self.new.known ≡ self.old.known }
+        ensures view { OnOk result (GoesOn self.old.rows self.old.graph self.new.graph) }
         ensures refused { OnErr result (self.new ≡ self.old) }
     {
         let close = self.parts.map.admit_close(scid)?;

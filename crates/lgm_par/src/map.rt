@@ -4,7 +4,7 @@ ghost use Rattle.std.specs.Prelude.{◌≤◌, IfOk};
 ghost use Rattle.lgm_par.specs.Pieces.{AcceptsAll, GivesAll};
 
 use crate::gate::Gate;
-use crate::pool::{MAX_WORKERS, Pool};
+use crate::pool::Pool;
 use std::alloc::{AllocError, Global};
 use std::thread::Threads;
 
@@ -21,7 +21,7 @@ pub fn map_chunks<Rt: Threads + Sync, G: Gate, T: Sync, A: Send + Drop, F: Fn(&T
     items: &[T],
     f: &F,
 ) -> Result<Vec<A>, AllocError>
-    requires workers { (1 ≤ workers) × (workers ≤ MAX_WORKERS) }
+    requires workers { (1 ≤ workers) × (workers ≤ 64) }
     requires accepts { AcceptsAll F.Fn f.now items.now }
     ensures { IfOk result (λ answers. GivesAll F.Fn f.now items.now answers.items) }
 {

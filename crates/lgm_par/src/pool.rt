@@ -1,7 +1,6 @@
 //! Workers that share work.
 
 ghost use Rattle.std.specs.Prelude.{◌≡◌, ◌<◌, ◌≤◌, IfOk, min};
-ghost use Rattle.lgm_par.specs.declared.pool.TheConstants.{MAX_WORKERS};
 ghost use Rattle.lgm_par.specs.inner.Chunks.{piece_of};
 ghost use Rattle.lgm_par.specs.Pieces.{AcceptsAll, GivesAll};
 
@@ -27,7 +26,7 @@ pub struct Pool<'a, Rt, G> {
     /// What each chunk of work passes before it starts.
     pub gate: &'a G,
     ghost some: { 1 ≤ workers },
-    ghost few: { workers ≤ MAX_WORKERS },
+    ghost few: { workers ≤ 64 },
 }
 
 impl<'a, Rt: Threads + Sync, G: Gate> Pool<'a, Rt, G> {

@@ -1,14 +1,14 @@
 -- The bounds of the forward search.
-use Rattle.std.proofs.Common.{◌≡◌, ◌≢◌, ◌⊎◌, ℕ, zero, suc, ◌+◌, ◌-◌, ◌^◌, ◌<◌, ◌≤◌, min, List, [], ◌∷◌, ◌++◌, length, get_or}
-use Rattle.std.proofs.Common.{set, Bool, true, false, refl, sym, ◌∙◌, ap, subst, inl, inr, arith, get_or-set_other}
+use Rattle.std.proofs.Common.{◌≡◌, ◌⊎◌, ℕ, zero, suc, ◌+◌, ◌-◌, ◌<◌, ◌≤◌, min, List, [], ◌∷◌, length}
+use Rattle.std.proofs.Common.{Bool, true, false, refl, sym, ◌∙◌, ap, subst, inl, inr, arith}
 use Rattle.std.specs.List.{Contains}
-use Rattle.std.proofs.lemmas.List.{get_or_default, get_or_push, length_push, get_or_append_left}
+use Rattle.std.proofs.lemmas.List.{get_or_default}
 use Rattle.lgm_graph.specs.Graph.{Graph, edges, edges_leaving, AreListed}
 use Rattle.lgm_graph.specs.declared.edge.Edge.{Edge}
 use Rattle.lgm_route.specs.declared.bounds.Measure.{Measure}
 use Rattle.lgm_route.specs.inner.Numbered.{Ask}
 use Rattle.lgm_route.specs.inner.Searching.{number_at, no_edge, edge_at}
-use Rattle.lgm_route.specs.inner.Bounding.{AreLowBy, MayCarry, charged, IsLowered, IsSpread, IsRadius, AreCut, AreReached, bounds_in, is_closed, IsNear, IsLooked}
+use Rattle.lgm_route.specs.inner.Bounding.{AreLowBy, MayCarry, charged, IsLowered, IsSpread, IsRadius, AreCut, IsShut, bounds_in, is_closed, IsNear, IsLooked}
 use Rattle.lgm_route.proofs.Rests.{trichotomy}
 
 abbrev pub IsCut : ℕ → ℕ → ℕ → Type 0
@@ -76,15 +76,17 @@ near_more measure request start nodes place leaving dist after falls before new 
     by (inr (inr p)) = absurd (omega arith)
 
 -- the node is closed
-pub spread_closed : (measure : Measure) (graph : Graph) (request : Ask) (dist : List ℕ) (closed : List Bool) (node start : ℕ) →
-    AreListed graph → length graph.points ≡ length dist → node < length closed → (node ≡ request.payer → start ≡ 0) → start ≤ number_at dist node →
+pub spread_closed : (measure : Measure) (graph : Graph) (request : Ask) (dist : List ℕ) (closed : List Bool) (node start : ℕ)
+    (after : List ℕ) (now : List Bool) →
+    AreListed graph → length graph.points ≡ length dist → (node ≡ request.payer → start ≡ 0) → start ≤ number_at dist node →
     ((j : ℕ) → j < length (edges_leaving graph node) → IsNear measure request start (length dist) dist (edge_at (edges_leaving graph node) j)) →
-    IsSpread measure (edges graph) request dist closed → IsSpread measure (edges graph) request dist (set closed node true)
-spread_closed measure graph request dist closed node start listed long within none low near is =
+    IsShut dist closed node after now →
+    IsSpread measure (edges graph) request dist closed → IsSpread measure (edges graph) request after now
+spread_closed measure graph request dist closed node start after now listed long none low near shut_now is =
     record {
-      near = λ edge there shut may. at edge there may shut (trichotomy edge.from node);
-      first = λ edge there shut may from. at_first edge there may from shut (trichotomy edge.from node);
-      payer = is.payer;
+      near = λ edge there shut may. at edge there may (shut_now.still edge.from shut);
+      first = λ edge there shut may from. at_first edge there may from (shut_now.still edge.from shut);
+      payer = shut_now.same request.payer ∙ is.payer;
     }
   where
     run : List Edge
@@ -99,23 +101,26 @@ spread_closed measure graph request dist closed node start listed long within no
     inside : (edge : Edge) → Contains (edges graph) edge → edge.to < length dist
     inside edge there = omega (arith, (listed.each edge there).to, long)
 
-    before : (other : ℕ) → other ≢ node → is_closed (set closed node true) other ≡ true → is_closed closed other ≡ true
-    before other apart shut = sym (get_or-set_other closed node other true false apart) ∙ shut
-
     at : (edge : Edge) → Contains (edges graph) edge → MayCarry request edge
-        → is_closed (set closed node true) edge.from ≡ true →
-        (edge.from < node) ⊎ (edge.from ≡ node) ⊎ (node < edge.from) → number_at dist edge.to
-        ≤ number_at dist edge.from + charged measure request edge
-    at edge there may shut (inl p) = is.near edge there (before edge.from (λ e. omega (arith, p)) shut) may
-    at edge there may shut (inr (inl e)) = omega (arith, (found edge there e).over (inside edge there) may, ap (λ n. number_at dist n) e)
-    at edge there may shut (inr (inr p)) = is.near edge there (before edge.from (λ e. omega (arith, p)) shut) may
+        → (is_closed closed edge.from ≡ true) ⊎ (edge.from ≡ node)
+        → number_at after edge.to ≤ number_at after edge.from + charged measure request edge
+    at edge there may (inl was) =
+        omega (arith, shut_now.same edge.to, shut_now.same edge.from, is.near edge there was may)
+    at edge there may (inr own) =
+        omega (
+          arith,
+          shut_now.same edge.to,
+          shut_now.same edge.from,
+          (found edge there own).over (inside edge there) may,
+          ap (λ n. number_at dist n) own,
+        )
 
-    at_first : (edge : Edge) → Contains (edges graph) edge → MayCarry request edge → edge.from ≡ request.payer → is_closed (set closed node true) edge.from ≡ true →
-        (edge.from < node) ⊎ (edge.from ≡ node) ⊎ (node < edge.from) → number_at dist edge.to ≤ 0
-    at_first edge there may from shut (inl p) = is.first edge there (before edge.from (λ e. omega (arith, p)) shut) may from
-    at_first edge there may from shut (inr (inl e)) =
-        omega (arith, (found edge there e).first (inside edge there) may from, none (sym e ∙ from))
-    at_first edge there may from shut (inr (inr p)) = is.first edge there (before edge.from (λ e. omega (arith, p)) shut) may from
+    at_first : (edge : Edge) → Contains (edges graph) edge → MayCarry request edge → edge.from ≡ request.payer
+        → (is_closed closed edge.from ≡ true) ⊎ (edge.from ≡ node) → number_at after edge.to ≤ 0
+    at_first edge there may from (inl was) = omega (arith, shut_now.same edge.to, is.first edge there was may from)
+    at_first edge there may from (inr own) =
+        omega
+        (arith, shut_now.same edge.to, (found edge there own).first (inside edge there) may from, none (sym own ∙ from))
 
 -- cut at the radius, the fees are lower bounds
 pub low_of : (measure : Measure) (edges : List Edge) (request : Ask) (dist : List ℕ) (closed : List Bool) (most : ℕ) (after : List ℕ) →
@@ -179,48 +184,6 @@ cut_bounds radius dist =
   where
     lesser : (n : ℕ) → IsCut radius n (min n radius)
     lesser n = grind arith
-
--- ---- nodes that were reached
-
--- the fees to open nodes of the list are no less
-abbrev pub IsLeastOf : List ℕ → List Bool → List ℕ → ℕ → ℕ → Type 0
-IsLeastOf dist closed reached place most =
-    (k : ℕ) → k < place → get_or reached k 0 < length dist → is_closed closed (get_or reached k 0) ≡ false
-    → most ≤ number_at dist (get_or reached k 0)
-
--- one more node in the list, with lowered fees
-pub reached_more : (dist after : List ℕ) (reached : List ℕ) (node : ℕ) → length after ≡ length dist
-    → ((other : ℕ) → (other ≡ node) ⊎ (number_at after other ≡ number_at dist other)) →
-    AreReached dist reached → AreReached after (reached ++ node ∷ [])
-reached_more dist after reached node long others are other within = by (others other)
-  where
-    new : Contains (reached ++ node ∷ []) node
-    new = (length reached, omega (arith, length_push reached node), get_or_push reached node node (length reached) refl)
-
-    old : Contains reached other → Contains (reached ++ node ∷ []) other
-    old there = (there.0, omega (arith, there.1, length_push reached node), get_or_append_left reached (node ∷ []) other there.0 there.1 ∙ there.2)
-
-    by : (other ≡ node) ⊎ (number_at after other ≡ number_at dist other)
-        → (number_at after other ≡ 2 ^ 64 - 1) ⊎ Contains (reached ++ node ∷ []) other
-    by (inl e) = inr (subst (Contains (reached ++ node ∷ [])) (sym e) new)
-    by (inr e) = then_by (are other (omega (arith, within, long)))
-      where
-        then_by : (number_at dist other ≡ 2 ^ 64 - 1) ⊎ Contains reached other
-            → (number_at after other ≡ 2 ^ 64 - 1) ⊎ Contains (reached ++ node ∷ []) other
-        then_by (inl m) = inl (e ∙ m)
-        then_by (inr there) = inr (old there)
-
--- a node that was in the list
-pub reached_same : (dist after : List ℕ) (reached : List ℕ) (node : ℕ) → length after ≡ length dist
-    → node < length dist → number_at dist node < 2 ^ 64 - 1 →
-    ((other : ℕ) → (other ≡ node) ⊎ (number_at after other ≡ number_at dist other)) → AreReached dist reached → AreReached after reached
-reached_same dist after reached node long here charged others are other within = by (others other) (are other (omega (arith, within, long)))
-  where
-    by : (other ≡ node) ⊎ (number_at after other ≡ number_at dist other) → (number_at dist other ≡ 2 ^ 64 - 1)
-        ⊎ Contains reached other → (number_at after other ≡ 2 ^ 64 - 1) ⊎ Contains reached other
-    by (inl e) (inl m) = absurd (omega (arith, charged, m, ap (number_at dist) e))
-    by (inr e) (inl m) = inl (e ∙ m)
-    by _ (inr there) = inr there
 
 -- ---- before the first step
 

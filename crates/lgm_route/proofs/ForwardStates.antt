@@ -1,15 +1,14 @@
 -- The steps of a forward search.
-use Rattle.std.proofs.Common.{◌≡◌, ◌⊎◌, ◌∙◌, ℕ, ◌+◌, ◌-◌, ◌^◌, ◌<◌, ◌≤◌, List, [], ◌∷◌, ◌++◌, length, set, Bool, true, false}
-use Rattle.std.proofs.Common.{sym, ap, subst, inl, inr, arith, length-set}
-use Rattle.std.specs.List.{Contains}
-use Rattle.lgm_graph.specs.Graph.{Graph, edges, edges_leaving, AreListed}
+use Rattle.std.proofs.Common.{◌≡◌, ◌∙◌, ℕ, ◌+◌, ◌<◌, ◌≤◌, List, length, Bool}
+use Rattle.std.proofs.Common.{sym, ap, subst, arith}
+use Rattle.lgm_graph.specs.Graph.{edges, edges_leaving}
 use Rattle.lgm_graph.specs.declared.edge.Edge.{Edge}
 use Rattle.lgm_route.specs.declared.bounds.Measure.{Measure}
 use Rattle.lgm_route.specs.inner.Numbered.{Ask}
 use Rattle.lgm_route.specs.inner.Searching.{number_at, edge_at}
-use Rattle.lgm_route.specs.inner.Bounding.{IsNear, IsLooked, IsLowered, IsRadius, AreLowBy, AreReached, bounds_in, is_closed}
-use Rattle.lgm_route.specs.inner.ForwardState.{ForwardState, forward_state, IsForwardState, IsSameForwardState, AreNear}
-use Rattle.lgm_route.proofs.Bounded.{near_more, spread_lowered, spread_closed, spread_first, reached_more, reached_same, low_of, cut_bounds}
+use Rattle.lgm_route.specs.inner.Bounding.{IsNear, IsLooked, IsShut, IsRadius, AreLowBy, bounds_in}
+use Rattle.lgm_route.specs.inner.ForwardState.{ForwardState, IsForwardState, IsSameForwardState, AreNear}
+use Rattle.lgm_route.proofs.Bounded.{near_more, spread_closed, low_of, cut_bounds}
 
 pub same_pass-trans : (a b c : ForwardState) → IsSameForwardState a b → IsSameForwardState b c → IsSameForwardState a c
 same_pass-trans a b c first second = record {
@@ -53,55 +52,16 @@ near_all first last start place node run same own all low near =
 
 -- ---- the invariant
 
--- before the first step
-pub first_pass : (graph : Graph) (request : Ask) (measure : Measure) (dist : List ℕ) (closed : List Bool) → AreListed graph
-    → length graph.points ≡ length dist → length closed ≡ length dist → ((node : ℕ) → is_closed closed node ≡ false)
-    → number_at dist request.payer ≡ 0
-    → ((node : ℕ) → node < length dist → (node ≡ request.payer) ⊎ (number_at dist node ≡ 2 ^ 64 - 1))
-    → IsForwardState (forward_state graph request measure dist closed (request.payer ∷ []))
-first_pass graph request measure dist closed listed nodes long none payer others = record {
-  listed = listed;
-  nodes = nodes;
-  long = long;
-  spread = spread_first measure (edges graph) request dist closed none payer;
-  reached = λ node within. by node (others node within);
-}
-  where
-    by : (node : ℕ) → (node ≡ request.payer) ⊎ (number_at dist node ≡ 2 ^ 64 - 1)
-        → (number_at dist node ≡ 2 ^ 64 - 1) ⊎ Contains (request.payer ∷ []) node
-    by node (inl own) = inr (0, omega arith, sym own)
-    by node (inr unknown) = inl unknown
-
--- after a node was reached, and the fees to it were lowered
-pub pass_lowered : (pass : ForwardState) (node amount : ℕ) (dist : List ℕ) (closed : List Bool) (reached : List ℕ) → IsForwardState pass
-    → node < length pass.dist → length dist ≡ length pass.dist → length closed ≡ length pass.closed
-    → IsLowered pass.dist pass.closed node amount dist closed
-    → (reached ≡ pass.reached ++ node ∷ []) ⊎ ((number_at pass.dist node < 2 ^ 64 - 1) × (reached ≡ pass.reached))
-    → IsForwardState (forward_state pass.graph pass.request pass.measure dist closed reached)
-pass_lowered pass node amount dist closed reached is within dist_long closed_long lowered more = record {
-  listed = is.listed;
-  nodes = is.nodes ∙ sym dist_long;
-  long = closed_long ∙ is.long ∙ sym dist_long;
-  spread = spread_lowered pass.measure (edges pass.graph) pass.request pass.dist pass.closed node amount dist closed lowered is.spread;
-  reached = by more;
-}
-  where
-    by : (reached ≡ pass.reached ++ node ∷ []) ⊎ ((number_at pass.dist node < 2 ^ 64 - 1) × (reached ≡ pass.reached))
-        → AreReached dist reached
-    by (inl longer) = rw longer (reached_more pass.dist dist pass.reached node dist_long lowered.others is.reached)
-    by (inr same) = rw same.1 (reached_same pass.dist dist pass.reached node dist_long within same.0 lowered.others is.reached)
-
 -- after a node was closed
-pub pass_closed : (pass : ForwardState) (node : ℕ) → IsForwardState pass → node < length pass.dist → AreNear pass node
-    → IsForwardState (record pass { closed = set pass.closed node true })
-pass_closed pass node is within near = record {
+pub pass_closed : (pass : ForwardState) (node : ℕ) (dist : List ℕ) (closed : List Bool) → IsForwardState pass
+    → length dist ≡ length pass.dist → AreNear pass node → IsShut pass.dist pass.closed node dist closed
+    → IsForwardState (record pass { dist = dist; closed = closed })
+pass_closed pass node dist closed is long near shut = record {
   listed = is.listed;
-  nodes = is.nodes;
-  long = length-set pass.closed node true ∙ is.long;
+  nodes = is.nodes ∙ sym long;
   spread =
-      spread_closed pass.measure pass.graph pass.request pass.dist pass.closed node (number_at pass.dist node) is.listed is.nodes
-      (omega (arith, within, is.long)) (λ own. ap (number_at pass.dist) own ∙ is.spread.payer) (omega arith) near is.spread;
-  reached = is.reached;
+      spread_closed pass.measure pass.graph pass.request pass.dist pass.closed node (number_at pass.dist node) dist closed is.listed is.nodes
+      (λ own. ap (number_at pass.dist) own ∙ is.spread.payer) (omega arith) near shut is.spread;
 }
 
 -- cut at the least fees to an open node, the fees are bounds

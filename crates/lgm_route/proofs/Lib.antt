@@ -6,6 +6,7 @@ pub mod Steps
 pub mod Endings
 pub mod RelaxationLaws
 pub mod Bounded
+pub mod ReachedLaws
 pub mod ForwardStates
 pub mod Searches
 pub mod PointWalkLaws

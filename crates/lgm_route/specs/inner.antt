@@ -2,6 +2,7 @@
 pub mod Numbered
 pub mod Searching
 pub mod Bounding
+pub mod Reaching
 pub mod ForwardState
 pub mod Relaxations
 pub mod SearchState

@@ -19,7 +19,7 @@ use crate::penalties::{NoPenalties, Penalties};
 use crate::request::{NumberedRequest, Request};
 use crate::walks::{best_walk, best_walk_chunked};
 use lgm_graph::{Edge, Route, RoutingGraph, View};
-use lgm_par::{Gate, MAX_WORKERS, Pool};
+use lgm_par::{Gate, Pool};
 use std::alloc::{AllocError, Global};
 use std::thread::Threads;
 
@@ -154,7 +154,7 @@ pub fn least_pooled_in<Rt: Threads + Sync, G: Gate, V: RoutingGraph + Sync>(
     )
 }
 
-/// The same route as [`least`], found by several workers, for any number of them from 1 to [`MAX_WORKERS`], and
+/// The same route as [`least`], found by several workers, for any number of them from 1 to 64, and
 /// whatever the gate does: [`least_pooled`], with a pool of these.
 pub fn least_chunked<Rt: Threads + Sync, G: Gate>(
     rt: &Rt,
@@ -164,7 +164,7 @@ pub fn least_chunked<Rt: Threads + Sync, G: Gate>(
     view: &View,
     request: &Request,
 ) -> Result<Route, RouteFault>
-    requires workers { (1 ≤ workers) × (workers ≤ MAX_WORKERS) }
+    requires workers { (1 ≤ workers) × (workers ≤ 64) }
     ensures refused { (fault : RouteFault) → refusal request.now ≡ Some fault → result ≡ Err fault }
     ensures answer { (result ≡ Err RouteFault.NoMemory) ⊎ IsAnswer (point_edges view.now) request.now result }
 {

@@ -3,11 +3,13 @@
 ghost use Rattle.std.specs.Prelude.{◌≡◌, [], length, IfOk};
 ghost use Rattle.lgm_route.specs.inner.Searching.{number_at};
 ghost use Rattle.lgm_route.specs.inner.Bounding.{bounds_in, AreLow, AreLowBy};
+ghost use Rattle.lgm_route.specs.inner.Reaching.{fees_in};
 ghost use Rattle.lgm_graph.specs.Graph.{edges};
 ghost use Rattle.lgm_route.specs.inner.Numbered.{asked};
 
 use crate::forward_search::ForwardSearch;
 use crate::penalties::Penalties;
+use crate::reached_nodes::ReachedNodes;
 use crate::request::NumberedRequest;
 use lgm_gossip::Scid;
 use lgm_graph::RoutingGraph;
@@ -30,9 +32,7 @@ pub(crate) enum Measure {
 #[derive(Drop)]
 pub(crate) struct Bounds {
     /// What leads to each node that the forward search reached.
-    charged: Vec<u64>,
-    /// The channel over which it reached each node for this.
-    over: Vec<Scid>,
+    reached: ReachedNodes,
     /// The radius: the least of what leads to a node that was reached and not expanded. No bound exceeds it.
     radius: u64,
 }
@@ -40,10 +40,11 @@ pub(crate) struct Bounds {
 impl Model for Bounds {
     ghost use Rattle.std.specs.Prelude.{ℕ, List};
     ghost use Rattle.lgm_route.specs.inner.Bounding.{bounds_in};
+    ghost use Rattle.lgm_route.specs.inner.Reaching.{fees_in};
 
     ghost Value = { List ℕ };
 
-    ghost view = { λ b. bounds_in b.radius b.charged.items };
+    ghost view = { λ b. bounds_in b.radius (fees_in b.reached) };
 }
 
 /// Lower bounds from the payer to each node: on the fees, and on the delays that count.
@@ -63,28 +64,24 @@ impl Model for LowerBounds {
 }
 
 impl Bounds {
-    pub(crate) fn new(charged: Vec<u64>, over: Vec<Scid>, radius: u64) -> Bounds
-        ensures { result ≡ bounds_in radius charged.items }
+    pub(crate) fn new(reached: ReachedNodes, radius: u64) -> Bounds
+        ensures { result ≡ bounds_in radius (fees_in reached) }
     {
-        Bounds {
-            charged,
-            over,
-            radius,
-        }
+        Bounds { reached, radius }
     }
 
     /// No bounds.
     fn none(alloc: Global) -> Bounds
         ensures { result ≡ [] }
     {
-        Bounds::new(Vec::new(alloc), Vec::new(alloc), 0)
+        Bounds::new(ReachedNodes::none(alloc), 0)
     }
 
     /// The number of nodes.
     pub(crate) fn len(&self) -> usize
         ensures { result ≡ length self.now }
     {
-        self.charged.len()
+        self.reached.len()
     }
 
     /// The bound of a node; 0 for an unknown number.
@@ -92,22 +89,12 @@ impl Bounds {
     pub(crate) fn at(&self, node: u32) -> u64
         ensures { result ≡ number_at self.now node }
     {
-        let node = node as usize;
-        if node < self.charged.len() {
-            self.charged[node].min(self.radius)
-        } else {
-            0
-        }
+        self.reached.fees_to(node).min(self.radius)
     }
 
     /// The channel over which the forward search reached a node, if the node is within the radius.
     pub(crate) fn channel_to(&self, node: u32) -> Option<Scid> {
-        let charged = self.charged.get(node as usize)?;
-        if *charged == u64::MAX || self.radius < *charged {
-            return None;
-        }
-        let over = self.over.get(node as usize)?;
-        Some(*over)
+        self.reached.channel_to(node, self.radius)
     }
 }
 

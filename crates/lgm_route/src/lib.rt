@@ -25,6 +25,7 @@ mod preferences;
 mod preferred;
 mod queue;
 mod quickest;
+mod reached_nodes;
 mod relaxation;
 mod request;
 mod search;

@@ -86,7 +86,7 @@ impl ParetoFronts {
                 return (None, step);
             }
             if dominates(view, labels, &labels[place], label) {
-                return (Some(place), step);
+                return (Some(place), step + 1);
             }
             place = self.behind(place);
         }

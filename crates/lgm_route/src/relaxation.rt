@@ -17,7 +17,8 @@ const MOST_EDGES: u16 = 19;
 
 impl<'a, V: RoutingGraph, P: Penalties> Search<'a, V, P> {
     /// The relaxation of a label over one edge into its node, where no walk of this cost is better: a whole walk if the
-    /// edge is the payer's, else a longer rest. None if the edge can't carry it, or if a longer rest would be too long, or its walks beyond the limit, or is pruned.
+    /// edge is the payer's, else a longer rest. None if the edge can't carry it, or if a longer rest would be too long, or its
+    /// walks beyond the limit, or is pruned.
     #[inline(always)]
     pub(crate) fn relaxation(
         &self,
@@ -59,11 +60,11 @@ impl<'a, V: RoutingGraph, P: Penalties> Search<'a, V, P> {
         if bound <= cost(amount + label.penalty as u128 + beyond, hops) || amount >= 1 << 64 {
             return None;
         }
+        let delay = self.delay_over(label, edge)?;
         let penalty = request.penalties.add(label.penalty, edge, label.amount);
         if bound <= cost(amount + penalty as u128 + beyond, hops) {
             return None;
         }
-        let delay = self.delay_over(label, edge)?;
         Some(Label {
             amount: amount as u64,
             penalty,

@@ -1,5 +1,5 @@
 -- How a view over an overlay is represented.
-use Rattle.std.specs.Prelude.{◌≡◌, ◌≢◌, ◌⊎◌, ℕ, zero, suc, ◌<◌, ◌==◌, Bool, true, false, ◌||◌, min, List, [], ◌∷◌, ◌++◌, map}
+use Rattle.std.specs.Prelude.{◌≡◌, ◌≢◌, ◌⊎◌, ℕ, suc, ◌<◌, ◌==◌, Bool, true, false, ◌||◌, min, List, [], ◌∷◌, ◌++◌, map}
 use Rattle.std.specs.Prelude.{fold, length, Option, Some, None, unwrap_or, Contains, slice_get, slice_index_or, ◌^◌, if◌then◌else◌}
 use Rattle.std.specs.List.{list_any, filter_map}
 use Rattle.lgm_wire.specs.declared.point.Point.{Point}
@@ -11,6 +11,7 @@ use Rattle.lgm_graph.specs.declared.overlay_view.saying.Saying.{Saying}
 use Rattle.lgm_graph.specs.declared.overlay_view.saying.Saying.TheVariants.{Silent, Limited, Leaving, Entering}
 use Rattle.lgm_graph.specs.Edges.{PointEdge}
 use Rattle.lgm_graph.specs.Graph.{Graph, GraphNode, bare_node, node_at, edges_leaving, edges_with}
+use Rattle.lgm_graph.specs.Places.{at_place, used_places}
 use Rattle.lgm_graph.specs.Overlay.{OverlayParts, limited, firsts, most_of}
 
 -- ---- what an overlay says of a node
@@ -57,11 +58,6 @@ pub record Touched : Type 0 where
   pub places : List ℕ
   pub nodes : List Said
 
--- the element at a place
-abbrev pub at_place : {X : Type 0} → List X → ℕ → Option X
-at_place xs zero = None
-at_place xs (suc k) = slice_get xs k
-
 abbrev pub place_of : Touched → ℕ → ℕ
 place_of touched number = slice_index_or touched.places number 0
 
@@ -70,12 +66,6 @@ said_of touched number = unwrap_or (at_place touched.nodes (place_of touched num
 
 abbrev pub laid_by : Touched → Edge → Option Edge
 laid_by touched edge = laid_at (said_of touched edge.from) edge
-
--- the number of places
-abbrev pub used_places : List ℕ → ℕ
-used_places [] = 0
-used_places (zero ∷ places) = used_places places
-used_places (suc k ∷ places) = suc (used_places places)
 
 -- each place is that of its node
 pub record ArePlaced (touched : Touched) : Type 0 where

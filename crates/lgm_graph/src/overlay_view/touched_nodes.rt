@@ -5,7 +5,8 @@ ghost use Rattle.std.specs.Prelude.{length, slice_get, slice_index_or, IfOk, OnO
 ghost use Rattle.std.specs.Option.{option_copied};
 ghost use Rattle.lgm_graph.specs.Graph.{edges_leaving};
 ghost use Rattle.lgm_graph.specs.inner.Overlaying.{Said, Touched, ArePlaced, IsTouchedMore, LeadsTo, IsReached, AreReached, heard};
-ghost use Rattle.lgm_graph.specs.inner.Overlaying.{at_place, place_of, said_of, laid_by, most_in, has_id};
+ghost use Rattle.lgm_graph.specs.Places.{at_place};
+ghost use Rattle.lgm_graph.specs.inner.Overlaying.{place_of, said_of, laid_by, most_in, has_id};
 
 use super::saying::Saying;
 use super::touched_node::TouchedNode;

@@ -1,5 +1,5 @@
 -- Lower bounds on the fees and the delays from the payer to each node, and the forward search that computes them.
-use Rattle.std.specs.Prelude.{◌≡◌, ◌⊎◌, ℕ, ◌+◌, ◌^◌, ◌-◌, ◌<◌, ◌≤◌, min, List, length}
+use Rattle.std.specs.Prelude.{◌≡◌, ◌⊎◌, ℕ, ◌+◌, ◌-◌, ◌<◌, ◌≤◌, min, List, length}
 use Rattle.std.specs.Prelude.{map, Contains, Bool, true, slice_index_or, false}
 use Rattle.lgm_graph.specs.Fee.{fee_of}
 use Rattle.lgm_graph.specs.declared.edge.Edge.{Edge}
@@ -45,6 +45,11 @@ pub record IsLowered (dist : List ℕ) (closed : List Bool) (node amount : ℕ) 
   pub still : (other : ℕ) → is_closed now other ≡ true
       → (is_closed closed other ≡ true) × (number_at after other ≡ number_at dist other)
 
+-- a node was closed, and the fees stayed
+pub record IsShut (dist : List ℕ) (closed : List Bool) (node : ℕ) (after : List ℕ) (now : List Bool) : Type 0 where
+  pub same : (other : ℕ) → number_at after other ≡ number_at dist other
+  pub still : (other : ℕ) → is_closed now other ≡ true → (is_closed closed other ≡ true) ⊎ (other ≡ node)
+
 -- over the edges out of a closed node the fees grow by at most what the edge adds, and from the payer by nothing
 pub record IsSpread (measure : Measure) (edges : List Edge) (request : Ask) (dist : List ℕ)
     (closed : List Bool) : Type 0 where
@@ -76,11 +81,6 @@ pub record AreCut (dist : List ℕ) (most : ℕ) (after : List ℕ) : Type 0 whe
   pub long : length after ≡ length dist
   pub each : (node : ℕ) → node < length dist → ((number_at after node ≡ number_at dist node)
       × (number_at dist node ≤ most)) ⊎ ((number_at after node ≡ most) × (most ≤ number_at dist node))
-
--- each node is in the list, or nothing is known of the fees to it
-abbrev pub AreReached : List ℕ → List ℕ → Type 0
-AreReached dist reached =
-    (node : ℕ) → node < length dist → (number_at dist node ≡ 2 ^ 64 - 1) ⊎ Contains reached node
 
 -- the bounds: the fees, but at most the radius
 abbrev pub bounds_in : ℕ → List ℕ → List ℕ

@@ -4,34 +4,31 @@ use Rattle.lgm_graph.specs.Graph.{Graph, edges, edges_leaving, AreListed}
 use Rattle.lgm_route.specs.declared.bounds.Measure.{Measure}
 use Rattle.lgm_route.specs.inner.Numbered.{Ask}
 use Rattle.lgm_route.specs.inner.Searching.{number_at, edge_at}
-use Rattle.lgm_route.specs.inner.Bounding.{IsSpread, IsNear, AreReached}
+use Rattle.lgm_route.specs.inner.Reaching.{Table, fees_in, closed_in}
+use Rattle.lgm_route.specs.inner.Bounding.{IsSpread, IsNear}
 
--- the edges and the request, what is measured, the fees to each node, which nodes are closed, and which were reached
+-- the edges and the request, what is measured, the fees to each node, and which nodes are closed
 pub record ForwardState : Type 0 where
   pub graph : Graph
   pub request : Ask
   pub measure : Measure
   pub dist : List ℕ
   pub closed : List Bool
-  pub reached : List ℕ
 
-abbrev pub forward_state : Graph → Ask → Measure → List ℕ → List Bool → List ℕ → ForwardState
-forward_state graph request measure dist closed reached = record {
+abbrev pub forward_state : Graph → Ask → Measure → Table → ForwardState
+forward_state graph request measure reached = record {
   graph = graph;
   request = request;
   measure = measure;
-  dist = dist;
-  closed = closed;
-  reached = reached;
+  dist = fees_in reached;
+  closed = closed_in reached;
 }
 
--- the edges out of closed nodes were relaxed, and of nodes that weren't reached nothing is known
+-- the edges out of closed nodes were relaxed
 pub record IsForwardState (pass : ForwardState) : Type 0 where
   pub listed : AreListed pass.graph
   pub nodes : length pass.graph.points ≡ length pass.dist
-  pub long : length pass.closed ≡ length pass.dist
   pub spread : IsSpread pass.measure (edges pass.graph) pass.request pass.dist pass.closed
-  pub reached : AreReached pass.dist pass.reached
 
 -- a forward search over the same edges for the same request and measure
 pub record IsSameForwardState (before after : ForwardState) : Type 0 where

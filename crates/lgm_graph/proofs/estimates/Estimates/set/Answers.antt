@@ -4,6 +4,7 @@ use Rattle.std.specs.Map.{keys_of}
 use Rattle.lgm_graph.specs.Estimates.{Entries, IsEstimated, key_of, is_key}
 use Rattle.lgm_graph.specs.declared.estimate.EdgeKey.{EdgeKey}
 use Rattle.lgm_graph.proofs.EstimateLaws.{keys-insert_entry}
+use Rattle.lgm_graph.proofs.FilterLaws.{covers_more}
 use Rattle.lgm_graph.proofs.estimates.Estimates.set.Goals as goal
 
 pub returns-clause-set : goal.returns-clause-set
@@ -17,3 +18,8 @@ returns-clause-set c =
       places = ap keys_of set.entries ∙ keys-insert_entry (λ (key other : EdgeKey). is_key key.scid key.from other) (key_of c.args.scid c.args.from.now) c.args.estimate old;
       count = set.len ∙ ap (λ known. length old + (if is_some known then 0 else 1)) set.old;
     })
+
+pub invariant_of-self-2 : goal.invariant_of-self-2
+invariant_of-self-2 c =
+    covers_more c.self.inside.filter c.note.new.self c.self.inside.entries.entries c.insert.new.self.entries c.args.scid c.args.from.now
+    c.self.invariant c.in_ok-note.ensures.kept c.in_ok-note.ensures.here c.in_ok-insert.ensures.updates.2

@@ -21,8 +21,8 @@ loop-edge-preserved g c =
           c.loop-edge.invariant.near looked;
     }
 
-pub close-requires-clause-near : goal.close-requires-clause-near
-close-requires-clause-near g c =
+pub close-requires : goal.close-requires
+close-requires g c =
     near_all c.args.self.now c.loop-edge.self c.fees_to-start.result c.loop-edge.edge-index c.args.node
     c.edges_leaving-edge-items.result.now c.loop-edge.invariant.same c.edges_leaving-edge-items.ensures
     (omega (arith, c.loop-edge-test.false)) c.loop-edge.invariant.start c.loop-edge.invariant.near
