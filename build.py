@@ -13,6 +13,8 @@ A library that is proved is left with its statements alone, which those above it
 going to change something wants the proofs kept: with `--keep`, or where `rt check` has kept some, `rt lib` builds each
 library, and a later check begins with what it left. Then the first build takes longer.
 
+A library for other languages isn't built again where it is as this script built it for the same processor.
+
 With `--is-stale` nothing is built: the exit status is 0 if a file of the program, or of a library that it depends on, is
 newer than the program, else 1.
 
@@ -34,14 +36,14 @@ from pathlib import Path
 
 TOP = Path(__file__).resolve().parent
 PROGRAM = "lgm"
-TIMES = {PROGRAM: "some 20 minutes", "lgm_c": "some 15 minutes"}
+TIMES = {PROGRAM: "some 20 to 30 minutes", "lgm_c": "some 15 minutes"}
 SOURCES = ("src", "specs", "proofs")
 MOST_AT_ONCE = 4
 MEMORY_OF_ONE = 6 << 30  # bytes, for a check that shares its work among several processors
 MEMORY_OF_JOB = 2 << 30  # bytes, for what one processor does of it
 # What proofs of libraries took on four processors, of two at a time. Only the order and who gives way depend on it.
 SECONDS = {"lgm_hex": 30, "lgm_wire": 41, "lgm_par": 50, "lgm_gossip": 125, "lgm_check": 58, "lgm_script": 180, "lgm_store": 130,
-           "lgm_query": 130, "lgm_graph": 122, "lgm_route": 157, "lgm_payload": 55, "lgm_answers": 70, "lgm_board": 110,
+           "lgm_query": 130, "lgm_graph": 122, "lgm_route": 157, "lgm_timeline": 110, "lgm_payload": 55, "lgm_answers": 70, "lgm_board": 110,
            "lgm_run": 170, "lgm_live": 270, "lgm_start": 80}
 NEARLY = 0.8  # of the longest chain of libraries that wait for each other
 BYTES_A_SECOND = 1_500
@@ -287,13 +289,30 @@ def is_fresh(used, crate, builder):
     return all(it.stat().st_mtime <= stamps[0].stat().st_mtime for it in (*files_of(crate), *stamps[1:], TOP / "crates.txt"))
 
 
-def is_stale(used):
-    """Whether the program is older than a file of its crate or of a library that it depends on, or isn't there."""
-    program = folder_of(PROGRAM) / "out" / PROGRAM
-    if not program.exists():
+def built_file(target):
+    """What the build of the program, or of a library for other languages, leaves."""
+    return folder_of(target) / "out" / (PROGRAM if target == PROGRAM else f"lib{target}.a")
+
+
+def is_stale(used, target, made):
+    """Whether a file that is made of a crate isn't there, or is older than a file of the crate or of a library that it depends
+    on."""
+    if not made.exists():
         return True
-    files = (file for it in (*below(used, PROGRAM), PROGRAM) for file in files_of(it))
-    return any(it.stat().st_mtime > program.stat().st_mtime for it in (TOP / "crates.txt", *files))
+    files = (file for it in (*below(used, target), target) for file in files_of(it))
+    return any(it.stat().st_mtime > made.stat().st_mtime for it in (TOP / "crates.txt", *files))
+
+
+def cpu_note(target):
+    """The file that says for which processor a library for other languages was built here."""
+    return built_file(target).with_suffix(".cpu")
+
+
+def is_built_for(used, target, cpu):
+    """Whether a library for other languages is as this script built it for a kind of processor, and no source is newer."""
+    note, made = cpu_note(target), built_file(target)
+    return not is_stale(used, target, made) and note.exists() and note.read_text() == cpu \
+        and note.stat().st_mtime >= made.stat().st_mtime
 
 
 def stale_of(used, crates, builder):
@@ -367,12 +386,16 @@ def build_target(target, count, cpu, builder):
     started, clock = time.time(), time.monotonic()
     say(f"{target}, for {cpu} processors .." if cpu != ANY_CPU else f"{target} ..")
     jobs = jobs_of_one(1, 1)
+    made = [built_file(target)]
     if target == PROGRAM:
         builder.program(jobs, cpu)
-        # As old as the start: a file that was edited meanwhile is newer.
-        os.utime(folder_of(PROGRAM) / "out" / PROGRAM, (started, started))
     else:
         builder.archive(target, jobs, cpu)
+        made.append(cpu_note(target))
+        made[-1].write_text(cpu)
+    for file in filter(Path.exists, made):
+        # As old as the start: a file that was edited meanwhile is newer.
+        os.utime(file, (started, started))
     say(f"{target}: {time.monotonic() - clock:.0f} s, {count} of {count}")
 
 
@@ -396,12 +419,15 @@ def main():
     used = read_crates(TOP / "crates.txt")
     arguments = arguments_of(used)
     if arguments.is_stale:
-        sys.exit(0 if is_stale(used) else 1)
+        sys.exit(0 if is_stale(used, PROGRAM, built_file(PROGRAM)) else 1)
     target = arguments.library or PROGRAM
     crates, at_once = below(used, target), max(1, arguments.at_once)
     keeps = arguments.keep or any((folder_of(it) / "out" / "incremental").is_dir() for it in (*crates, target))
     builder = Keeper(used, at_once) if keeps else Builder(used)
     stale = stale_of(used, crates, builder)
+    if arguments.library and not stale and is_built_for(used, target, arguments.cpu):
+        say(f"{target} is built already")
+        return
     say(f"proving and building {len(stale) + 1} of {len(crates) + 1} crates, {min(at_once, len(stale) + 1)} at once; "
         f"all of them take {TIMES.get(target, 'some time')} on four processors")
     begun = time.monotonic()

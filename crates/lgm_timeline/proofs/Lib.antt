@@ -1,0 +1,3 @@
+mod Logs
+mod Followings
+mod Pasts

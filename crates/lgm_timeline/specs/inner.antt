@@ -1,0 +1,3 @@
+-- Definitions for contracts inside the crate.
+pub mod Follower
+pub mod Past

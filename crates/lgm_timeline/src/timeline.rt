@@ -1,0 +1,168 @@
+//! Maps that go on.
+
+ghost use Rattle.std.specs.Prelude.{◌≡◌, ◌≤◌, IsTrue, MatchOption, length, IfOk, IfErr, OnOk, OnErr};
+ghost use Rattle.lgm_store.specs.Rows.{empty};
+ghost use Rattle.lgm_store.specs.Admission.{admitted};
+ghost use Rattle.lgm_graph.specs.declared.view.TheConstants.{MAX_CHANNELS};
+ghost use Rattle.lgm_timeline.specs.History.{behind, most_kept, HasView};
+ghost use Rattle.lgm_timeline.specs.Timeline.{newest, Advances, RefusesOrRunsOut};
+
+use crate::edition::Edition;
+use crate::past::Past;
+use lgm_check::Refusal;
+use lgm_graph::{MAX_CHANNELS, Network};
+use lgm_query::MapDiff;
+use lgm_store::{CheckedMessage, Op};
+use std::alloc::{AllocError, Global};
+use std::marker::Model;
+
+/// The newest network, and what is kept of its past. Contracts see the network, how many operations it has accepted, the rows
+/// at the mark, and how many operations are kept.
+#[derive(Drop)]
+pub struct Timeline {
+    newest: Network,
+    past: Past,
+}
+
+impl Model for Timeline {
+    ghost use Rattle.std.specs.Prelude.{length};
+    ghost use Rattle.lgm_timeline.specs.History.{end};
+    ghost use Rattle.lgm_timeline.specs.Timeline.{TimelineState};
+    ghost use Rattle.lgm_timeline.specs.inner.Past.{IsPast, rows_marked, is_reached_by};
+
+    ghost Value = { TimelineState };
+
+    ghost view = { λ t. record {
+      network = t.newest;
+      version = end t.past.log;
+      marked = rows_marked t.past;
+      is_reached = is_reached_by t.past.marked t.past.mark;
+      kept = length t.past.log.ops;
+    } };
+
+    ghost invariant = { λ t. IsPast t.newest t.past };
+}
+
+impl Timeline {
+    /// A network that has accepted nothing, without a mark.
+    pub fn new(alloc: Global, newest: Network) -> Timeline
+        ensures network { result.network ≡ newest }
+        ensures version { result.version ≡ 0 }
+        ensures marked { result.marked ≡ empty }
+        ensures kept { result.kept ≡ 0 }
+    {
+        Timeline {
+            newest,
+            past: Past::new(alloc),
+        }
+    }
+
+    /// Admits a checked message, and applies its operation. A refusal or out of memory changes nothing; out of memory may
+    /// come in place of a refusal.
+    pub fn offer(&mut self, alloc: Global, message: CheckedMessage) -> Result<(), Refusal>
+        ensures accepted { OnOk result
+            (Advances (admitted self.old.network.rows message) (newest self.old) (newest self.new)) }
+        ensures refused { IfErr result (RefusesOrRunsOut (admitted self.old.network.rows message)) }
+        ensures stays { OnErr result (newest self.new ≡ newest self.old) }
+        ensures marked { self.new.marked ≡ self.old.marked }
+        ensures few { OnOk result (self.new.kept ≤ most_kept self.old.network.rows) }
+    {
+        self.past.make_room(alloc, &self.newest)?;
+        let op = self.newest.offer(alloc, message)?;
+        self.past.note(op);
+        Ok(())
+    }
+
+    /// Applies an operation. The only error is out of memory, which changes nothing.
+    pub fn absorb(&mut self, alloc: Global, op: Op) -> Result<(), AllocError>
+        ensures applied { OnOk result (newest self.new ≡ behind (newest self.old) op) }
+        ensures stays { OnErr result (newest self.new ≡ newest self.old) }
+        ensures marked { self.new.marked ≡ self.old.marked }
+        ensures few { OnOk result (self.new.kept ≤ most_kept self.old.network.rows) }
+    {
+        self.past.make_room(alloc, &self.newest)?;
+        self.newest.absorb(&op)?;
+        self.past.note(op);
+        Ok(())
+    }
+
+    /// Moves the mark to the newest map, or sets the first one. A mark that was left behind takes a copy of the map. The only
+    /// error is out of memory, which leaves the mark where it is.
+    pub fn renew_mark(&mut self, alloc: Global) -> Result<(), AllocError>
+        ensures newest { newest self.new ≡ newest self.old }
+        ensures renewed { OnOk result (self.new.marked ≡ self.old.network.rows) }
+        ensures stays { OnErr result (self.new.marked ≡ self.old.marked) }
+        ensures few { self.new.kept ≤ self.old.kept }
+    {
+        self.past.renew_mark(alloc, &self.newest)
+    }
+
+    /// Brings the network of the mark there, by the operations that it lacks. The only error is out of memory.
+    pub fn reach_mark(&mut self) -> Result<(), AllocError>
+        ensures newest { newest self.new ≡ newest self.old }
+        ensures marked { self.new.marked ≡ self.old.marked }
+        ensures reached { OnOk result (IsTrue self.new.is_reached) }
+        ensures few { self.new.kept ≤ self.old.kept }
+    {
+        self.past.reach_mark(&self.newest)?;
+        self.past.trim();
+        Ok(())
+    }
+
+    /// The differences from the map at the mark to the newest one, or none before the first mark. Time is logarithmic in the
+    /// maps for each operation since the mark, or that of the map if the mark was left behind. The only error is out of
+    /// memory.
+    pub fn map_diff(&self, alloc: Global) -> Result<Option<MapDiff<'_>>, AllocError>
+        requires { IsTrue self.now.is_reached }
+        ensures { IfOk result (λ found. MatchOption found (self.now.marked ≡ empty) (λ map_diff.
+            map_diff ≡ record { before = self.now.marked; after = self.now.network.rows })) }
+    {
+        let Some(mark) = &self.past.mark else {
+            return Ok(None);
+        };
+        let (before, after) = (mark.network.map(), self.newest.map());
+        if !self.past.log.leads_from(self.past.marked) {
+            return Ok(Some(MapDiff::of_maps(alloc, before, after)?));
+        }
+        let keys = self.past.log.touched_since(alloc, self.past.marked)?;
+        Ok(Some(MapDiff::between(alloc, before, after, &keys)?))
+    }
+
+    /// The newest network for good, with its view, unless it has too many channels: the edition that was published last, if
+    /// nothing was applied since, or the one before, which catches up if it has no other owner, or a copy. The only error is
+    /// out of memory.
+    pub fn publish(&mut self, alloc: Global) -> Result<Edition, AllocError>
+        ensures newest { newest self.new ≡ newest self.old }
+        ensures marked { self.new.marked ≡ self.old.marked }
+        ensures edition { IfOk result (λ edition. edition ≡ newest self.old) }
+        ensures few { self.new.kept ≤ self.old.kept }
+    {
+        self.past.publish(alloc, &self.newest)
+    }
+
+    /// Builds the view of the newest network, unless it has one that numbers few enough points. The only error is out of
+    /// memory.
+    pub fn make_view(&mut self, alloc: Global) -> Result<(), AllocError>
+        requires { length self.old.network.rows.channels ≤ MAX_CHANNELS }
+        ensures newest { newest self.new ≡ newest self.old }
+        ensures marked { self.new.marked ≡ self.old.marked }
+        ensures viewed { OnOk result (HasView self.new.network) }
+        ensures few { self.new.kept ≤ self.old.kept }
+    {
+        self.newest.make_view(alloc)
+    }
+
+    /// The newest network.
+    pub fn network(&self) -> &Network
+        ensures { result.now ≡ self.now.network }
+    {
+        &self.newest
+    }
+
+    /// How many operations were accepted, at most 2^64 - 1.
+    pub fn version(&self) -> u64
+        ensures { result ≡ self.now.version }
+    {
+        self.past.log.end()
+    }
+}
