@@ -3,3 +3,4 @@ pub mod Records
 pub mod PayloadLaws
 pub mod BuildingLaws
 pub mod OnionLaws
+pub mod ArrivalLaws

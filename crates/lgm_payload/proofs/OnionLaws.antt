@@ -1,9 +1,10 @@
 -- How long payloads are, and that they are read back.
 use Rattle.std.proofs.Common.{◌≡◌, ℕ, suc, ◌+◌, ◌*◌, ◌<◌, ◌≤◌, Bool, true, false, cond, eqb, List}
-use Rattle.std.proofs.Common.{[], ◌∷◌, ◌++◌, length, Some, refl, ap, ◌∙◌, arith, inl, inr}
+use Rattle.std.proofs.Common.{[], ◌∷◌, ◌++◌, length, get_or, take, drop, Some, refl, ap, ◌∙◌, arith, inl, inr}
+use Rattle.std.specs.Prelude.{IsTrue, IfOk, Result, Ok, Err}
 use Rattle.std.specs.Int.{w64, to_be_bytes}
 use Rattle.std.specs.List.{flat_map, AllByRecursion, AllZip}
-use Rattle.std.proofs.lemmas.List.{length-append, append-nil}
+use Rattle.std.proofs.lemmas.List.{length-append, append-nil, take_more, take-append-drop}
 use Rattle.std.proofs.lemmas.List.Concat.{flat_map-cons}
 use Rattle.lgm_wire.specs.BigSize.{bigsize_bytes}
 use Rattle.lgm_wire.specs.TruncatedInteger.{truncated_bytes, without_leading_zeros}
@@ -112,9 +113,36 @@ pub onion_fits : (secret : List ℕ) (hops : List Hop) → length secret ≡ 32 
     → onion_len (payloads_of secret hops) ≤ 1300
 onion_fits secret hops len some few = let most = onion_most secret hops len some in omega arith
 
+onion_len-append : (xs ys : List (List ℕ)) → onion_len (xs ++ ys) ≡ onion_len xs + onion_len ys
+onion_len-append [] ys = omega arith
+onion_len-append (x ∷ xs) ys = let later = onion_len-append xs ys in omega arith
+
+-- one more payload
+pub onion_more : (payloads : List (List ℕ)) (i : ℕ) (d : List ℕ) → i < length payloads
+    → onion_len (take (i + 1) payloads) ≡ onion_len (take i payloads) + (length (get_or payloads i d) + 32)
+onion_more payloads i d lt =
+    let both = onion_len-append (take i payloads) (get_or payloads i d ∷ []) in
+    ap onion_len (take_more payloads i d lt) ∙ omega arith
+
+-- a payload for which there is no room
+pub too_long : (payloads : List (List ℕ)) (i : ℕ) (d : List ℕ) (room : ℕ) → i < length payloads
+    → onion_len (take i payloads) + room ≡ 1300 → room < length (get_or payloads i d) + 32
+    → (IsTrue false → onion_len payloads ≤ 1300) × (onion_len payloads ≤ 1300 → IsTrue false)
+too_long payloads i d room lt so_far short =
+    let more = onion_more payloads i d lt in
+    let both = onion_len-append (take (i + 1) payloads) (drop (i + 1) payloads) in
+    let all = ap onion_len (take-append-drop (i + 1) payloads) in
+    (λ (never : IsTrue false). absurd cc, λ (le : onion_len payloads ≤ 1300). absurd (omega arith))
+
+-- payloads that are known fit
+pub known_fit : {E : Type 0} (r : Result (List (List ℕ)) E) (all : List (List ℕ)) → IfOk r (λ payloads. payloads ≡ all)
+    → onion_len all ≤ 1300 → IfOk r (λ payloads. onion_len payloads ≤ 1300)
+known_fit (Ok payloads) all is fit = rw is fit
+known_fit (Err e) all is fit = tt
+
 -- ---- what was built encodes what it was built from
 
-forward_spelled : (next : Hop) → IsSized next → IsPayload (forward next) (payload_bytes (forward next))
+pub forward_spelled : (next : Hop) → IsSized next → IsPayload (forward next) (payload_bytes (forward next))
 forward_spelled next sized =
     let short = forward_text next in
     let a = truncated_len next.amount in

@@ -143,7 +143,7 @@ lawful_value kind (r ∷ rs) v none fits is =
     lawful_one kind r v (value_of kind rs) both.0 fits.0 (λ there. lawful_value kind rs v both.1 fits.1 there) is
 
 -- after a type there is no record of that type or a lesser one
-absent : (kind last : ℕ) (rs : List TlvRecord) → RisesFrom (Some last) rs → kind ≤ last → value_of kind rs ≡ None
+pub absent : (kind last : ℕ) (rs : List TlvRecord) → RisesFrom (Some last) rs → kind ≤ last → value_of kind rs ≡ None
 absent kind last [] rises le = refl
 absent kind last (r ∷ rs) rises le =
     let lt : last < r.kind = rises.0 in

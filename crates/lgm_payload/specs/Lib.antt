@@ -1,3 +1,4 @@
 pub mod HopPayload
+pub mod Arrival
 pub mod Building
 pub mod reading

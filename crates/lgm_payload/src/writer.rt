@@ -3,10 +3,13 @@
 ghost use Rattle.std.specs.Prelude.{◌≡◌, ◌++◌, OnOk, IfOk};
 ghost use Rattle.std.specs.Int.{w64, to_be_bytes};
 ghost use Rattle.std.specs.Option.{option_map};
-ghost use Rattle.lgm_payload.specs.HopPayload.{optional_bytes, text_of, payment_bytes, payload_bytes};
+ghost use Rattle.std.specs.List.{flat_map};
+ghost use Rattle.lgm_payload.specs.HopPayload.{optional_bytes, payment_bytes};
+ghost use Rattle.lgm_payload.specs.Arrival.{custom_records, records_with, payload_with};
 ghost use Rattle.lgm_wire.specs.Tlv.{record_bytes};
 ghost use Rattle.lgm_wire.specs.TruncatedInteger.{truncated_bytes};
 
+use crate::custom_record::CustomRecord;
 use crate::hop_payload::{HopPayload, Payment};
 use lgm_gossip::{Bytes, Scid};
 use lgm_wire::{NoMemory, write_bigsize, write_tlv, write_tu};
@@ -71,9 +74,21 @@ fn append_metadata(text: &mut Vec<u8>, metadata: &Option<Bytes>) -> Result<(), N
     }
 }
 
-/// The TLV stream of a payload.
-fn text(alloc: Global, payload: &HopPayload) -> Result<Vec<u8>, NoMemory>
-    ensures { IfOk result (λ text. text.items ≡ text_of payload.now) }
+/// Appends custom records.
+fn append_custom(text: &mut Vec<u8>, custom: &[CustomRecord]) -> Result<(), NoMemory>
+    ensures { OnOk result (text.new.items ≡
+        text.old.items ++ flat_map record_bytes (custom_records custom.now)) }
+{
+    for record in custom {
+        write_tlv(text, record.kind, record.value.as_slice())?;
+    }
+    Ok(())
+}
+
+/// The TLV stream of a payload with custom records.
+fn text(alloc: Global, payload: &HopPayload, custom: &[CustomRecord]) -> Result<Vec<u8>, NoMemory>
+    ensures { IfOk result (λ text. text.items ≡
+        flat_map record_bytes (records_with payload.now (custom_records custom.now))) }
 {
     let mut text = Vec::new(alloc);
     append_number(alloc, &mut text, 2, payload.amount)?;
@@ -81,14 +96,19 @@ fn text(alloc: Global, payload: &HopPayload) -> Result<Vec<u8>, NoMemory>
     append_next(&mut text, payload.next)?;
     append_payment(alloc, &mut text, &payload.payment)?;
     append_metadata(&mut text, &payload.metadata)?;
+    append_custom(&mut text, custom)?;
     Ok(text)
 }
 
-/// The encoding of a payload, beginning with its length.
-pub(crate) fn write(alloc: Global, payload: &HopPayload) -> Result<Bytes, NoMemory>
-    ensures { IfOk result (λ bytes. bytes ≡ payload_bytes payload.now) }
+/// The encoding of a payload with custom records, beginning with its length.
+pub(crate) fn write(
+    alloc: Global,
+    payload: &HopPayload,
+    custom: &[CustomRecord],
+) -> Result<Bytes, NoMemory>
+    ensures { IfOk result (λ bytes. bytes ≡ payload_with payload.now (custom_records custom.now)) }
 {
-    let text = text(alloc, payload)?;
+    let text = text(alloc, payload, custom)?;
     let mut bytes = Vec::new(alloc);
     write_bigsize(&mut bytes, text.len() as u64)?;
     bytes.extend_from_slice(&text)?;

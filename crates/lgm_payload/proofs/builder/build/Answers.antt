@@ -1,34 +1,27 @@
-use Rattle.std.proofs.Common.{◌≡◌, ◌-◌, length, take, drop, get_or, ap, ◌∙◌, arith, rules}
-use Rattle.lgm_payload.specs.HopPayload.{payload_bytes}
-use Rattle.lgm_payload.specs.Building.{forward, arrival}
-use Rattle.lgm_payload.proofs.BuildingLaws.{forwarded_more, payloads_all}
-use Rattle.lgm_payload.proofs.OnionLaws.{onion_fits}
+use Rattle.std.proofs.Common.{◌≡◌, length, ap, subst, sym, ◌∙◌, arith, rules}
+use Rattle.std.specs.Prelude.{IfOk}
+use Rattle.lgm_payload.specs.Arrival.{whole_arrival}
+use Rattle.lgm_payload.specs.Building.{payloads_of, payloads_for}
+use Rattle.lgm_payload.proofs.BuildingLaws.{payloads_for-whole}
+use Rattle.lgm_payload.proofs.OnionLaws.{onion_fits, known_fit}
 use Rattle.lgm_payload.proofs.builder.build.Goals as goal
-
-pub loop-next-preserved : goal.loop-next-preserved
-loop-next-preserved c =
-    let hops = c.as_slice-hops.result.now in
-    let behind = take (length hops - 1) (drop 1 hops) in
-    let next = c.next-item.result in
-    let text : c.in_ok-write.field-0 ≡ payload_bytes (forward (get_or behind c.loop-next.next-index next)) =
-    c.in_ok-write.ensures ∙ ap payload_bytes c.forward.ensures ∙ ap (λ hop. payload_bytes (forward hop)) c.next-item.is in
-    forwarded_more behind c.loop-next.next-index next c.loop-next.payloads.items c.push.new.self.items c.in_ok-write.field-0
-    c.loop-next-test.true c.loop-next.invariant text c.in_ok-push.ensures.items
 
 pub returns-clause-payloads : goal.returns-clause-payloads
 returns-clause-payloads c =
-    let hops = c.as_slice-hops.result.now in
+    let route = c.args.route.now in
     let secret = c.args.secret.now in
     let last = c.index-hops-hops.result in
-    let text : c.in_ok-write-2.field-0 ≡ payload_bytes (arrival secret (get_or hops (length hops - 1) last)) =
-    c.in_ok-write-2.ensures ∙ ap payload_bytes c.arrival.ensures ∙ ap (λ hop. payload_bytes (arrival secret hop)) c.index-hops-hops.is in
-    c.from_vec.ensures ∙ rw (← c.as_slice-hops.ensures.hops) (payloads_all secret hops c.loop-next.next-index
-    last c.loop-next.payloads.items c.push-2.new.self.items c.in_ok-write-2.field-0
-    c.as_slice-hops.ensures.some c.loop-next-test.false c.loop-next.invariant text c.in_ok-push-2.ensures.items)
+    let whole : payloads_for c.whole.result route ≡ payloads_of secret route =
+    ap (λ arrival. payloads_for arrival route) c.whole.ensures
+    ∙ ap (payloads_for (whole_arrival secret last)) (sym c.as_slice-hops.ensures.hops)
+    ∙ payloads_for-whole secret c.as_slice-hops.result.now last last c.as_slice-hops.ensures.some c.index-hops-hops.is
+    ∙ ap (payloads_of secret) c.as_slice-hops.ensures.hops in
+    subst (λ expected. IfOk c.write_all-2.result (λ payloads. payloads ≡ expected)) whole c.write_all-2.ensures
 
 pub returns-clause-fits : goal.returns-clause-fits
 returns-clause-fits c =
-    let is = returns-clause-payloads c in
     let same = ap length c.as_slice-hops.ensures.hops in
-    rw is (onion_fits c.args.secret.now c.args.route.now (search rules) (omega
+    let secret = c.args.secret.now in
+    let route = c.args.route.now in
+    known_fit c.write_all-2.result (payloads_of secret route) (returns-clause-payloads c) (onion_fits secret route (search rules) (omega
     (arith, c.as_slice-hops.ensures.some, same)) (omega (arith, c.as_slice-hops.ensures.few, same)))
