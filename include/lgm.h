@@ -89,11 +89,14 @@ enum {
     LGM_OPEN = 101,
     /*
      * Out of memory. The same call may be made again. It comes only if the call would have succeeded, or returned
-     * LGM_ROOM, or was to search for a route, or to decode a query or a reply with lists: any other fault is returned even
-     * if memory is short. lgm_filter returns LGM_ROOM even then.
+     * LGM_ROOM, or was to search for a route, to make payloads, or to decode a query or a reply with lists: any other fault
+     * is returned even if memory is short. lgm_filter returns LGM_ROOM even then.
      */
     LGM_NO_MEMORY = 102,
-    /* A number that stands for no verdict or message; too many edges; a map that changes, where a published one is wanted. */
+    /*
+     * A number that stands for no verdict or message; too many edges; a map that changes, where a published one is wanted;
+     * hops that are no route, or records that aren't custom ones by ascending types, or too long.
+     */
     LGM_ARGUMENT = 103,
     /* A buffer is too short. The lengths that are needed were written. */
     LGM_ROOM = 104,
@@ -243,6 +246,36 @@ typedef struct {
  */
 uint32_t lgm_route(lgm_map *map, const lgm_payment *payment, lgm_hop *hops, size_t hops_len,
                    uint8_t *payloads, size_t payloads_len, lgm_lengths *lengths);
+
+/* A record of the payee's payload that BOLT 4 doesn't define, as 5482373484 with the preimage of a spontaneous payment. */
+typedef struct {
+    uint64_t type; /* at least 65,536; of an even one that it doesn't know the payee refuses the payment */
+    const uint8_t *value;
+    size_t value_len;
+} lgm_record;
+
+/* What the payee gets beside the amount and the expiry over the last hop. */
+typedef struct {
+    uint64_t total_msat; /* what it is to get by all parts of the payment together; of one in one part, the amount */
+    const uint8_t *metadata; /* the payment metadata, from the invoice (BOLT 11, field `m`); with the length 0, none */
+    size_t metadata_len;
+    const lgm_record *records; /* custom records, by ascending types */
+    size_t records_len;
+    uint8_t secret[32]; /* the payment secret, from the invoice */
+} lgm_arrival;
+
+/*
+ * Makes the payloads of a route that was found, for a payee that gets more than lgm_route tells it: those of one part of a
+ * payment in several, and with payment metadata or custom records (BOLT 4, "Payload Format"). Reads the hops; writes to each
+ * the length of its payload, which alone may change; to `payloads` the payloads, as lgm_route does; and the numbers of both to
+ * `lengths`. That the parts of a payment add up to its total isn't checked.
+ *
+ * LGM_ARGUMENT, if the hops aren't 1 to 20, each of which begins where the one before ends, with no greater amount and no
+ * later expiry; or if the type of a record is below 65,536 or not above the one before, or the payloads don't fit an onion
+ * packet; LGM_ROOM; LGM_NO_MEMORY, which may come in place of LGM_ARGUMENT if the hops are such a route.
+ */
+uint32_t lgm_payloads(const lgm_arrival *arrival, lgm_hop *hops, size_t hops_len, uint8_t *payloads, size_t payloads_len,
+                      lgm_lengths *lengths);
 
 /*
  * A handle of what a payer has learnt of edges, or none. All zeros are a closed handle. It has no chain, and is used beside

@@ -1,12 +1,11 @@
 mod Values
 mod MapValues
 mod EstimatesValues
-mod Outcomes
 mod Unwanted
 mod Mended
-mod Networks
-mod Marks
+mod FirstNews
 mod Hops
 mod ShortWords
 mod Searches
 mod Written
+mod Built

@@ -10,6 +10,7 @@ pub mod Wanting
 pub mod Asking
 pub mod Routing
 pub mod Attempts
+pub mod Arrivals
 pub mod Looking
 pub mod Listing
 pub mod Estimating

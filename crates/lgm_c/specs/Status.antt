@@ -7,6 +7,8 @@ use Rattle.lgm_route.specs.declared.fault.RouteFault.{RouteFault}
 use Rattle.lgm_route.specs.declared.fault.RouteFault.TheVariants as reasons
 use Rattle.lgm_route.specs.declared.found.SearchFault.{SearchFault}
 use Rattle.lgm_route.specs.declared.found.SearchFault.TheVariants as searched
+use Rattle.lgm_payload.specs.declared.arrival_fault.ArrivalFault.{ArrivalFault}
+use Rattle.lgm_payload.specs.declared.arrival_fault.ArrivalFault.TheVariants as arrivals
 use Rattle.lgm_c.specs.declared.fault.Fault.{Fault}
 use Rattle.lgm_c.specs.declared.fault.Fault.TheVariants as faults
 
@@ -55,6 +57,11 @@ unrouted reason = faults.Unrouted reason
 abbrev pub unfound : SearchFault → Fault
 unfound (searched.Fault reason) = unrouted reason
 unfound searched.Undecided = faults.Undecided
+
+-- why there are no payloads: a wrong argument, or out of memory
+abbrev pub unbuilt : ArrivalFault → Fault
+unbuilt arrivals.NoMemory = faults.NoMemory
+unbuilt reason = faults.Argument
 
 -- whether a call may run out of memory: one that succeeds may, one that returns a fault only if finding it allocates
 abbrev pub MayRunOut : {A E : Type 0} → Type 0 → Result A E → Type 0

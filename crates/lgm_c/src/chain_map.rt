@@ -8,20 +8,20 @@ ghost use Rattle.lgm_c.specs.Opening.{MovesMark};
 ghost use Rattle.lgm_c.specs.Status.{status_of};
 ghost use Rattle.lgm_c.specs.Writing.{all_framed, buffer};
 ghost use Rattle.lgm_c.specs.inner.Framing.{MayWrite};
-ghost use Rattle.lgm_c.specs.inner.Kinds.{counted_in};
 ghost use Rattle.lgm_c.specs.inner.Searching.{IsRouted};
 
 use crate::attempt::Attempt;
-use crate::changing_map::ChangingMap;
 use crate::fault::Fault;
-use crate::frames::write_first_news;
-use crate::published_map::PublishedMap;
+use crate::frames::{write_first_news, write_marked_news};
+use crate::search::{is_searched, search};
+use crate::verdict::{ban, close, offer};
 use lgm_check::Evidence;
 use lgm_gossip::{ChainHash, Point, Scid};
 use lgm_graph::{Known, Network};
 use lgm_query::Filter;
 use lgm_route::Found;
 use lgm_store::{Map, Seed};
+use lgm_timeline::{Edition, Timeline};
 use std::alloc::{AllocError, Global};
 use std::marker::Model;
 
@@ -29,22 +29,9 @@ use std::marker::Model;
 #[derive(Drop)]
 pub enum MapKind {
     /// One that changes.
-    Changing(ChangingMap),
+    Changing(Timeline),
     /// One as it was when it was published.
-    Published(PublishedMap),
-}
-
-impl MapKind {
-    /// The map as it is now, for good: a copy, or one more owner. The only error is out of memory.
-    fn publish(&mut self, alloc: Global) -> Result<PublishedMap, AllocError>
-        ensures same { self.new ≡ self.old }
-        ensures published { IfOk result (λ map. map ≡ counted_in self.old) }
-    {
-        match self {
-            MapKind::Changing(map) => map.publish(alloc),
-            MapKind::Published(map) => map.share(),
-        }
-    }
+    Published(Edition),
 }
 
 /// A map of a chain, which changes or was published. Contracts see one value, whichever it is.
@@ -77,7 +64,7 @@ impl ChainMap {
         let network = Network::new(alloc, seed, &known)?;
         Ok(ChainMap {
             chain,
-            kind: MapKind::Changing(ChangingMap::new(network)),
+            kind: MapKind::Changing(Timeline::new(alloc, network)),
         })
     }
 
@@ -93,8 +80,8 @@ impl ChainMap {
         match (&mut self.kind, evidence) {
             (MapKind::Published(_), _) => Err(Fault::Published),
             (MapKind::Changing(_), None) => Err(Fault::Argument),
-            (MapKind::Changing(map), Some(evidence)) => {
-                Ok(map.offer(alloc, &self.chain, bytes, &evidence)?)
+            (MapKind::Changing(timeline), Some(evidence)) => {
+                Ok(offer(alloc, timeline, &self.chain, bytes, &evidence)?)
             }
         }
     }
@@ -104,7 +91,7 @@ impl ChainMap {
         ensures { Closes scid (status_of result) (Some self.old) (Some self.new) }
     {
         match &mut self.kind {
-            MapKind::Changing(map) => Ok(map.close(alloc, scid)?),
+            MapKind::Changing(timeline) => Ok(close(alloc, timeline, scid)?),
             MapKind::Published(_) => Err(Fault::Published),
         }
     }
@@ -114,7 +101,7 @@ impl ChainMap {
         ensures { Bans point.0 (status_of result) (Some self.old) (Some self.new) }
     {
         match &mut self.kind {
-            MapKind::Changing(map) => Ok(map.ban(alloc, point)?),
+            MapKind::Changing(timeline) => Ok(ban(alloc, timeline, point)?),
             MapKind::Published(_) => Err(Fault::Published),
         }
     }
@@ -124,7 +111,7 @@ impl ChainMap {
         ensures { MovesMark (status_of result) (Some self.old) (Some self.new) }
     {
         match &mut self.kind {
-            MapKind::Changing(map) => Ok(map.renew_mark(alloc)?),
+            MapKind::Changing(timeline) => Ok(timeline.renew_mark(alloc)?),
             MapKind::Published(_) => Err(Fault::Published),
         }
     }
@@ -143,8 +130,10 @@ impl ChainMap {
             (buffer room.old needed.old) (buffer room.new needed.new) }
     {
         match &mut self.kind {
-            MapKind::Changing(map) => map.news(alloc, filter, room, needed),
-            MapKind::Published(map) => write_first_news(alloc, map.map(), filter, room, needed),
+            MapKind::Changing(timeline) => write_marked_news(alloc, timeline, filter, room, needed),
+            MapKind::Published(edition) => {
+                write_first_news(alloc, edition.network().map(), filter, room, needed)
+            }
         }
     }
 
@@ -153,9 +142,13 @@ impl ChainMap {
         ensures same { self.new ≡ self.old }
         ensures route { IsRouted attempt.now self.old.known self.old.rows result }
     {
+        is_searched(self.map(), attempt)?;
         match &mut self.kind {
-            MapKind::Changing(map) => map.route(alloc, attempt),
-            MapKind::Published(map) => map.route(alloc, attempt),
+            MapKind::Changing(timeline) => {
+                timeline.make_view(alloc)?;
+                search(alloc, timeline.network(), attempt)
+            }
+            MapKind::Published(edition) => search(alloc, edition.network(), attempt),
         }
     }
 
@@ -164,9 +157,13 @@ impl ChainMap {
         ensures same { self.new ≡ self.old }
         ensures published { IfOk result (λ state. state ≡ published self.old) }
     {
+        let edition = match &mut self.kind {
+            MapKind::Changing(timeline) => timeline.publish(alloc)?,
+            MapKind::Published(edition) => edition.share()?,
+        };
         Ok(ChainMap {
             chain: self.chain,
-            kind: MapKind::Published(self.kind.publish(alloc)?),
+            kind: MapKind::Published(edition),
         })
     }
 
@@ -190,8 +187,8 @@ impl ChainMap {
         ensures { result.now ≡ self.now.rows }
     {
         match &self.kind {
-            MapKind::Changing(map) => map.map(),
-            MapKind::Published(map) => map.map(),
+            MapKind::Changing(timeline) => timeline.network().map(),
+            MapKind::Published(edition) => edition.network().map(),
         }
     }
 
@@ -200,8 +197,8 @@ impl ChainMap {
         ensures { result ≡ self.now.version }
     {
         match &self.kind {
-            MapKind::Changing(map) => map.version(),
-            MapKind::Published(map) => map.version(),
+            MapKind::Changing(timeline) => timeline.version(),
+            MapKind::Published(edition) => edition.version(),
         }
     }
 }

@@ -2,10 +2,11 @@
 
 ghost use Rattle.std.specs.Prelude.{◌≡◌};
 ghost use Rattle.lgm_c.specs.Asking.{fault_of};
-ghost use Rattle.lgm_c.specs.Status.{number_of, status_of, refused, unrouted, unfound};
+ghost use Rattle.lgm_c.specs.Status.{number_of, status_of, refused, unrouted, unfound, unbuilt};
 ghost use Rattle.lgm_c.specs.declared.fault.Fault.TheVariants.{NoMemory};
 
 use lgm_check::Refusal;
+use lgm_payload::ArrivalFault;
 use lgm_query::RequestFault;
 use lgm_route::{RouteFault, SearchFault};
 use std::alloc::AllocError;
@@ -32,7 +33,8 @@ pub(crate) enum Fault {
     Open,
     /// 102: out of memory.
     NoMemory,
-    /// 103: a number that stands for nothing, too many edges, or a map that changes where a published one is to be shared.
+    /// 103: a number that stands for nothing, too many edges, a map that changes where a published one is to be shared, hops
+    /// that are no route, or an arrival that has no payloads.
     Argument,
     /// 104: a buffer is too short for the answer.
     Room,
@@ -135,6 +137,17 @@ impl From<SearchFault> for Fault {
         match reason {
             SearchFault::Fault(reason) => Fault::from(reason),
             SearchFault::Undecided => Fault::Undecided,
+        }
+    }
+}
+
+impl From<ArrivalFault> for Fault {
+    ghost from_gives = { λ reason fault. fault ≡ unbuilt reason };
+
+    fn from(reason: ArrivalFault) -> Fault {
+        match reason {
+            ArrivalFault::NoMemory => Fault::NoMemory,
+            ArrivalFault::Reserved | ArrivalFault::Order | ArrivalFault::TooLong => Fault::Argument,
         }
     }
 }

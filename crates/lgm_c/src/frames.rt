@@ -5,6 +5,7 @@
 ghost use Rattle.std.specs.Prelude.{◌≡◌, ◌+◌, ◌++◌, length, IfOk, IfSome, OnOk};
 ghost use Rattle.lgm_store.specs.Rows.{empty};
 ghost use Rattle.lgm_query.specs.Backlog.{backlog, news};
+ghost use Rattle.lgm_timeline.specs.Timeline.{newest};
 ghost use Rattle.lgm_c.specs.Status.{status_of};
 ghost use Rattle.lgm_c.specs.Writing.{framed, all_framed, buffer};
 ghost use Rattle.lgm_c.specs.inner.Framing.{MayWrite};
@@ -13,6 +14,7 @@ use crate::fault::Fault;
 use crate::output::write_bytes;
 use lgm_query::{Backlog, Filter, MapDiff, News, ReplyMessage};
 use lgm_store::Map;
+use lgm_timeline::Timeline;
 use std::alloc::{AllocError, Global};
 
 /// Appends a message: its length first, in eight bytes, little-endian.
@@ -162,7 +164,7 @@ fn frame_news(alloc: Global, news: News<'_, '_>, bytes: usize) -> Result<Vec<u8>
 }
 
 /// Writes the news between two maps, as [`write_replies`] does.
-pub(crate) fn write_news(
+fn write_news(
     alloc: Global,
     map_diff: &MapDiff<'_>,
     filter: &Filter,
@@ -182,4 +184,24 @@ pub(crate) fn write_news(
     }
     let framed = frame_news(alloc, map_diff.news(filter), bytes)?;
     write_bytes(&framed, room, needed)
+}
+
+/// Writes the news since the mark of a map that changes, as [`write_replies`] does. Before the first mark, all that passes.
+pub(crate) fn write_marked_news(
+    alloc: Global,
+    timeline: &mut Timeline,
+    filter: &Filter,
+    room: &mut [u8],
+    needed: &mut usize,
+) -> Result<(), Fault>
+    ensures same { newest timeline.new ≡ newest timeline.old }
+    ensures marked { timeline.new.marked ≡ timeline.old.marked }
+    ensures news { MayWrite (all_framed (news timeline.old.marked timeline.old.network.rows filter.now)) (status_of result)
+        (buffer room.old needed.old) (buffer room.new needed.new) }
+{
+    timeline.reach_mark()?;
+    match timeline.map_diff(alloc)? {
+        Some(map_diff) => write_news(alloc, &map_diff, filter, room, needed),
+        None => write_first_news(alloc, timeline.network().map(), filter, room, needed),
+    }
 }

@@ -8,13 +8,11 @@
 //! `LGM_ROOM` comes with: the lengths, and the node of `lgm_node`.
 #![tactic(auto)]
 
+mod arrival;
 mod attempt;
 mod boxes;
 mod chain_map;
 mod changes;
-mod changing_map;
-mod current;
-mod edition;
 mod estimates;
 mod estimates_handle;
 mod evidence;
@@ -24,16 +22,13 @@ mod handle;
 mod lgm_map;
 mod listing;
 mod lookups;
-mod mark;
 mod output;
 mod publications;
-mod published_map;
 mod queries;
 mod raw_box;
 mod routes;
 mod search;
 mod stored_messages;
-mod turns;
 mod verdict;
 mod wanted;
 mod words;

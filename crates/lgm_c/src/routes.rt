@@ -94,7 +94,11 @@ fn c_hop(hop: &Hop, payload: &[u8]) -> LgmHop
 }
 
 /// Hops as C structs, each with the length of its payload.
-fn c_hops(alloc: Global, hops: &[Hop], payloads: &[Bytes]) -> Result<Vec<LgmHop>, AllocError>
+pub(crate) fn c_hops(
+    alloc: Global,
+    hops: &[Hop],
+    payloads: &[Bytes],
+) -> Result<Vec<LgmHop>, AllocError>
     ensures { IfOk result (λ made. made.items ≡ c_hops hops.now payloads.now) }
 {
     let count = hops.len().min(payloads.len());
@@ -106,7 +110,7 @@ fn c_hops(alloc: Global, hops: &[Hop], payloads: &[Bytes]) -> Result<Vec<LgmHop>
 }
 
 /// Payloads, one after the other.
-fn joined(alloc: Global, payloads: &[Bytes]) -> Result<Vec<u8>, AllocError>
+pub(crate) fn joined(alloc: Global, payloads: &[Bytes]) -> Result<Vec<u8>, AllocError>
     ensures { IfOk result (λ joined. joined.items ≡ all_payloads payloads.now) }
 {
     let mut joined = Vec::new(alloc);
@@ -117,7 +121,7 @@ fn joined(alloc: Global, payloads: &[Bytes]) -> Result<Vec<u8>, AllocError>
 }
 
 /// Writes hops and payloads if the buffers have room for both, and their lengths in any case.
-fn write_hops(
+pub(crate) fn write_hops(
     found: &[LgmHop],
     joined: &[u8],
     hops: &mut [LgmHop],

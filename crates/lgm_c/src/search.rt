@@ -3,7 +3,7 @@
 ghost use Rattle.std.specs.Prelude.{◌≡◌, ◌≤◌, None, Err, Option, List, ℕ, length, IfErr, OnOk};
 ghost use Rattle.lgm_route.specs.Answers.{refusal};
 ghost use Rattle.lgm_c.specs.Attempts.{route_over};
-ghost use Rattle.lgm_c.specs.inner.Networks.{HasView};
+ghost use Rattle.lgm_timeline.specs.History.{HasView};
 ghost use Rattle.lgm_c.specs.inner.Searching.{IsFound, IsRouted};
 
 use crate::attempt::{Attempt, MOST_EDGES};

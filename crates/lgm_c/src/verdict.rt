@@ -1,17 +1,17 @@
-//! Messages, offered to a network, and bans.
+//! Messages, closes and bans, offered to a map that changes.
 
-ghost use Rattle.std.specs.Prelude.{◌≡◌, Ok, IfOk, IfErr, OnErr};
+ghost use Rattle.std.specs.Prelude.{◌≡◌, Ok, IfOk, IfErr, OnOk, OnErr};
 ghost use Rattle.lgm_gossip.specs.Memory.{GivesIf, TakesMemory};
-ghost use Rattle.lgm_check.specs.Precheck.{checked_of};
-ghost use Rattle.lgm_store.specs.History.{absorbed};
-ghost use Rattle.lgm_c.specs.inner.Following.{Refuses};
+ghost use Rattle.lgm_store.specs.Admission.{admitted_close};
+ghost use Rattle.lgm_timeline.specs.Timeline.{newest, Advances, RefusesOrRunsOut};
+ghost use Rattle.lgm_c.specs.inner.Following.{Refuses, Follows};
 ghost use Rattle.lgm_c.specs.Offering.{offered_to, admitted_ban};
 ghost use Rattle.lgm_c.specs.Status.{MayRunOut};
 
 use lgm_check::{BanRow, Evidence, Refusal, precheck};
-use lgm_gossip::{ChainHash, Point};
-use lgm_graph::Network;
+use lgm_gossip::{ChainHash, Point, Scid};
 use lgm_store::{CheckedMessage, Map, Op, Shared};
+use lgm_timeline::Timeline;
 use std::alloc::Global;
 
 /// The operation of a message, or its first refusal. Memory is allocated only for the operation, and by decoding.
@@ -31,7 +31,7 @@ fn judge(
 }
 
 /// The answer to a message that can't be applied since memory ran out: its refusal, or out of memory if it has none.
-pub(crate) fn refusal_without_memory(
+fn refusal_without_memory(
     alloc: Global,
     map: &Map,
     chain: &ChainHash,
@@ -46,7 +46,7 @@ pub(crate) fn refusal_without_memory(
 }
 
 /// The operation that bans a node, unless it is banned. A refusal allocates nothing.
-pub(crate) fn admit_ban(alloc: Global, map: &Map, point: Point) -> Result<Op, Refusal>
+fn admit_ban(alloc: Global, map: &Map, point: Point) -> Result<Op, Refusal>
     ensures admitted { IfOk result (λ op. admitted_ban map.now point ≡ Ok op) }
     ensures refused { IfErr result (λ refusal. Refuses ⊥ (admitted_ban map.now point) refusal) }
 {
@@ -62,41 +62,68 @@ pub(crate) fn admit_ban(alloc: Global, map: &Map, point: Point) -> Result<Op, Re
     Ok(Op::Ban(Shared::new(alloc, ban)?))
 }
 
-/// Makes a message ready to be offered. One that the map would refuse is refused here if memory is short.
-fn message(
+/// Offers a message, with the verdicts on it. A refusal or out of memory changes nothing; out of memory may come in place of
+/// a refusal.
+fn offered(
     alloc: Global,
-    map: &Map,
+    timeline: &mut Timeline,
     chain: &ChainHash,
     bytes: &[u8],
     evidence: &Evidence,
-) -> Result<CheckedMessage, Refusal>
-    ensures made { IfOk result (λ made. checked_of chain.now bytes.now evidence.now ≡ Ok made) }
-    ensures refused { IfErr result (λ refusal. Refuses (TakesMemory bytes.now)
-        (offered_to chain.now map.now bytes.now evidence.now) refusal) }
+) -> Result<(), Refusal>
+    ensures accepted { OnOk result (Advances (offered_to chain.now timeline.old.network.rows bytes.now evidence.now)
+        (newest timeline.old) (newest timeline.new)) }
+    ensures refused { IfErr result
+        (RefusesOrRunsOut (offered_to chain.now timeline.old.network.rows bytes.now evidence.now)) }
+    ensures stays { OnErr result (newest timeline.new ≡ newest timeline.old) }
+    ensures marked { timeline.new.marked ≡ timeline.old.marked }
 {
-    match CheckedMessage::precheck(alloc, chain, bytes, evidence) {
-        Err(Refusal::NoMemory) => Err(refusal_without_memory(alloc, map, chain, bytes, evidence)),
+    let message = CheckedMessage::precheck(alloc, chain, bytes, evidence)?;
+    timeline.offer(alloc, message)
+}
+
+/// Offers a message, with the verdicts on it. A refusal or out of memory changes nothing, and a message that the map would
+/// refuse is refused even if memory is short.
+pub(crate) fn offer(
+    alloc: Global,
+    timeline: &mut Timeline,
+    chain: &ChainHash,
+    bytes: &[u8],
+    evidence: &Evidence,
+) -> Result<(), Refusal>
+    ensures follows { Follows (TakesMemory bytes.now)
+        (offered_to chain.now timeline.old.network.rows bytes.now evidence.now) result
+        (newest timeline.old) (newest timeline.new) }
+    ensures marked { timeline.new.marked ≡ timeline.old.marked }
+{
+    match offered(alloc, timeline, chain, bytes, evidence) {
+        Err(Refusal::NoMemory) => Err(refusal_without_memory(
+            alloc,
+            timeline.network().map(),
+            chain,
+            bytes,
+            evidence,
+        )),
         result => result,
     }
 }
 
-/// Offers a message, with the verdicts on it, to a network, and returns its operation. A refusal or out of memory
-/// leaves the map as it was.
-pub(crate) fn offer(
-    alloc: Global,
-    network: &mut Network,
-    chain: &ChainHash,
-    bytes: &[u8],
-    evidence: &Evidence,
-) -> Result<Op, Refusal>
-    ensures outcome { GivesIf
-        (MayRunOut (TakesMemory bytes.now) (offered_to chain.now network.old.rows bytes.now evidence.now))
-        Refusal.NoMemory (λ op. op) result
-        (offered_to chain.now network.old.rows bytes.now evidence.now) }
-    ensures accepted { IfOk result (λ op. network.new.rows ≡ absorbed network.old.rows op) }
-    ensures known { network.new.known ≡ network.old.known }
-    ensures refused { OnErr result (network.new.rows ≡ network.old.rows) }
+/// Closes a channel. A refusal or out of memory changes nothing.
+pub(crate) fn close(alloc: Global, timeline: &mut Timeline, scid: Scid) -> Result<(), Refusal>
+    ensures follows { Follows ⊥ (admitted_close timeline.old.network.rows scid) result
+        (newest timeline.old) (newest timeline.new) }
+    ensures marked { timeline.new.marked ≡ timeline.old.marked }
 {
-    let message = message(alloc, network.map(), chain, bytes, evidence)?;
-    network.offer(alloc, message)
+    let op = timeline.network().map().admit_close(scid)?;
+    Ok(timeline.absorb(alloc, op)?)
+}
+
+/// Bans a node. A refusal or out of memory changes nothing.
+pub(crate) fn ban(alloc: Global, timeline: &mut Timeline, point: Point) -> Result<(), Refusal>
+    ensures follows { Follows ⊥ (admitted_ban timeline.old.network.rows point) result
+        (newest timeline.old) (newest timeline.new) }
+    ensures marked { timeline.new.marked ≡ timeline.old.marked }
+{
+    let op = admit_ban(alloc, timeline.network().map(), point)?;
+    Ok(timeline.absorb(alloc, op)?)
 }

@@ -1,16 +1,11 @@
--- What an outcome does to the current map.
+-- What an outcome does to the newest map.
 use Rattle.std.specs.Prelude.{◌≡◌, ◌⊎◌, Result, Ok, Err}
 use Rattle.lgm_check.specs.declared.refusal.Refusal.{Refusal}
 use Rattle.lgm_check.specs.declared.refusal.Refusal.TheVariants as refusals
 use Rattle.lgm_store.specs.declared.op.Op.{Op}
-use Rattle.lgm_c.specs.inner.Networks.{Counted, counted_behind}
+use Rattle.lgm_timeline.specs.History.{Moment}
+use Rattle.lgm_timeline.specs.Timeline.{Advances}
 use Rattle.lgm_c.specs.Status.{MayRunOut}
-
--- an accepted operation was applied
-pub record Advances (outcome : Result Op Refusal) (old new : Counted) : Type 0 where
-  pub op : Op
-  pub accepts : outcome ≡ Ok op
-  pub becomes : new ≡ counted_behind old op
 
 -- this is the refusal of an outcome, or out of memory
 abbrev pub Refuses : Type 0 → Result Op Refusal → Refusal → Type 0
@@ -21,11 +16,11 @@ abbrev pub Fails : Type 0 → Result Op Refusal → Refusal → Type 0
 Fails takes outcome refusal = (takes × (refusal ≡ refusals.NoMemory)) ⊎ (outcome ≡ Err refusal)
 
 -- nothing was applied
-pub record Stays (takes : Type 0) (outcome : Result Op Refusal) (refusal : Refusal) (old new : Counted) : Type 0 where
+pub record Stays (takes : Type 0) (outcome : Result Op Refusal) (refusal : Refusal) (old new : Moment) : Type 0 where
   pub refuses : Refuses takes outcome refusal
   pub same : new ≡ old
 
 -- an accepted operation was applied, or the call returned the refusal or out of memory and changed nothing
-abbrev pub Follows : {T : Type 0} → Type 0 → Result Op Refusal → Result T Refusal → Counted → Counted → Type 0
+abbrev pub Follows : {T : Type 0} → Type 0 → Result Op Refusal → Result T Refusal → Moment → Moment → Type 0
 Follows takes outcome (Ok t) old new = Advances outcome old new
 Follows takes outcome (Err refusal) old new = Stays takes outcome refusal old new

@@ -2,7 +2,7 @@ use Rattle.std.proofs.Common.{ℕ, List, subst}
 use Rattle.lgm_c.specs.Status.{status_of}
 use Rattle.lgm_c.specs.Writing.{buffer}
 use Rattle.lgm_c.specs.inner.Framing.{MayWrite}
-use Rattle.lgm_c.proofs.Marks.{first_news}
+use Rattle.lgm_c.proofs.FirstNews.{first_news}
 use Rattle.lgm_c.proofs.frames.write_first_news.Goals as goal
 
 pub returns : goal.returns
