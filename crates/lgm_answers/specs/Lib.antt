@@ -1,3 +1,4 @@
+pub mod Limits
 pub mod Outcomes
 pub mod Filters
 pub mod Routing

@@ -6,10 +6,11 @@ ghost use Rattle.left_right.specs.Sides.{view as last_of};
 ghost use Rattle.lgm_store.specs.History.{fold};
 ghost use Rattle.lgm_graph.specs.Graph.{IsGraphOf};
 ghost use Rattle.lgm_board.specs.inner.Contents.{Contents, sight, known_in};
+ghost use Rattle.lgm_board.specs.Limits.{most_operations};
 ghost use Rattle.lgm_board.specs.Lists.{IsLonger};
 
 use crate::rule::{Last, Published, Seeing};
-use crate::snapshot::{MAX_OPERATIONS, Snapshot};
+use crate::snapshot::Snapshot;
 use crate::told::Told;
 use left_right::reader::{Reader, Reading};
 use lgm_graph::View;
@@ -70,7 +71,7 @@ impl Eye {
         ensures board { IfOk result (λ guard. guard.board ≡ self.board) }
         ensures known { IfOk result (λ guard. guard.known ≡ self.known) }
         ensures seen { IfOk result (λ guard. IsPrefix self.ops guard.ops) }
-        ensures few { IfOk result (λ guard. length guard.ops ≤ MAX_OPERATIONS) }
+        ensures few { IfOk result (λ guard. length guard.ops ≤ most_operations) }
         ensures back { IfErr result (λ eye. eye ≡ self) }
     {
         let Eye { reader, told } = self;

@@ -4,11 +4,10 @@ use Rattle.std.specs.List.{AllZip, AllByRecursion}
 use Rattle.std.specs.Result.{result_err}
 use Rattle.lgm_wire.specs.declared.chain_hash.ChainHash.{ChainHash}
 use Rattle.lgm_route.specs.declared.request.Request.{Request as RouteRequest}
-use Rattle.lgm_script.specs.declared.line_reader.TheConstants.{MAX_LINE}
+use Rattle.lgm_answers.specs.Limits.{longest_line, most_lines}
 use Rattle.lgm_script.specs.declared.item.Item.{Item}
 use Rattle.lgm_script.specs.declared.command.Command.{Command}
 use Rattle.lgm_script.specs.Lines.{lines_of}
-use Rattle.lgm_answers.specs.declared.run_fault.TheConstants.{MAX_LINES}
 use Rattle.lgm_answers.specs.Outcomes.{outcomes, history_of}
 use Rattle.lgm_answers.specs.Script.{commands_of}
 use Rattle.lgm_live.specs.declared.fault.LiveFault.{LiveFault}
@@ -43,8 +42,8 @@ pub record IsReport (chain : ChainHash) (known : Option (List ℕ)) (batches : L
 
 -- all lines are within the limits
 pub record IsWithin (script : List ℕ) : Type 0 where
-  pub few : length (lines_of script) ≤ MAX_LINES
-  pub short : AllByRecursion (λ line. length line ≤ MAX_LINE) (lines_of script)
+  pub few : length (lines_of script) ≤ most_lines
+  pub short : AllByRecursion (λ line. length line ≤ longest_line) (lines_of script)
 
 -- a report on what these requests ask
 abbrev pub IsReportOn : ChainHash → Option (List ℕ) → ℕ → List Command → LiveReport → Type 0
@@ -69,18 +68,18 @@ pub record IsToldInPart (chain : ChainHash) (known : Option (List ℕ)) (workers
 
 -- none of the first n lines is too long
 abbrev pub AreShort : List ℕ → ℕ → Type 0
-AreShort script n = AllByRecursion (λ line. length line ≤ MAX_LINE) (take n (lines_of script))
+AreShort script n = AllByRecursion (λ line. length line ≤ longest_line) (take n (lines_of script))
 
 -- one more line than the limit begins, and none of the lines before it is too long
 pub record HasMoreLines (script : List ℕ) : Type 0 where
-  pub more : MAX_LINES < length (lines_of script)
-  pub short : AreShort script MAX_LINES
+  pub more : most_lines < length (lines_of script)
+  pub short : AreShort script most_lines
 
 -- a line within the limit is too long, and none of the lines before it is
 pub record HasLongLine (script : List ℕ) : Type 0 where
   pub place : ℕ
-  pub limit : place < MAX_LINES
-  pub long : MAX_LINE < length (slice_index_or (lines_of script) place [])
+  pub limit : place < most_lines
+  pub long : longest_line < length (slice_index_or (lines_of script) place [])
   pub short : AreShort script place
 
 -- a fault that comes before anything is written

@@ -11,7 +11,7 @@ use crate::write_answers::write_answers;
 use lgm_answers::RunFault;
 use lgm_gossip::ChainHash;
 use lgm_graph::Known;
-use lgm_par::{Gate, MAX_WORKERS, Pool};
+use lgm_par::{Gate, Pool};
 use lgm_script::{BLOCK, Output, Sink, Source};
 use std::alloc::Global;
 use std::marker::Sync;
@@ -55,7 +55,7 @@ fn run_all<Rt: Threads + Wait + Sync + RandomSource, G: Gate, R: Source, W: Sink
 
 /// Runs a whole script (see `lgm live` in `docs/script.md`): reads it, has [`live`] admit its items and answer its
 /// payments in parallel, and then writes the text of its lines, in order. Batches of items end at `commit` lines and at
-/// the end. Payments are dealt to 1 to [`MAX_WORKERS`] workers round-robin, from worker 0 on. A payment waits until the
+/// the end. Payments are dealt to 1 to 64 workers round-robin, from worker 0 on. A payment waits until the
 /// batches whose `commit` is before it are published, so it is answered on these or on later ones.
 ///
 /// Items and commits are answered as by `run` if no peer has a filter. The answer to a payment has the
@@ -74,7 +74,7 @@ pub fn run_live<Rt: Threads + Wait + Sync + RandomSource, G: Gate, R: Source, W:
     workers: usize,
     gate: &G,
 ) -> Result<LiveReport, RunFault>
-    requires workers { (1 ≤ workers) × (workers ≤ MAX_WORKERS) }
+    requires workers { (1 ≤ workers) × (workers ≤ 64) }
     ensures runs { RunsLive chain.now known.now workers (R.seen reader.old) (R.seen reader.new)
         (W.seen writer.old) (W.seen writer.new) result }
 {

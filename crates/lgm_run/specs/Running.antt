@@ -3,9 +3,8 @@ use Rattle.std.specs.Prelude.{◌≡◌, ◌⊎◌, ℕ, ◌<◌, ◌≤◌, Lis
 use Rattle.std.specs.Prelude.{take, Option, Some, filter, slice_index_or}
 use Rattle.std.specs.List.{AllByRecursion}
 use Rattle.lgm_wire.specs.declared.chain_hash.ChainHash.{ChainHash}
-use Rattle.lgm_script.specs.declared.line_reader.TheConstants.{MAX_LINE}
+use Rattle.lgm_answers.specs.Limits.{longest_line, most_lines}
 use Rattle.lgm_script.specs.Lines.{ends_line, lines_of}
-use Rattle.lgm_answers.specs.declared.run_fault.TheConstants.{MAX_LINES}
 use Rattle.lgm_answers.specs.declared.run_fault.RunFault.{RunFault}
 use Rattle.lgm_answers.specs.declared.run_fault.RunFault.TheVariants as faults
 use Rattle.lgm_run.specs.declared.script_run.Counts.{Counts}
@@ -22,29 +21,29 @@ NeedsNoBoard _ = Unit {0}
 pub record IsTold (chain : ChainHash) (known : Option (List ℕ)) (told : List ℕ → Type 0) (script : List ℕ)
     (n : ℕ) : Type 0 where
   pub few : n ≤ length (lines_of script)
-  pub short : AllByRecursion (λ line. length line ≤ MAX_LINE) (take n (lines_of script))
+  pub short : AllByRecursion (λ line. length line ≤ longest_line) (take n (lines_of script))
   pub text : told (text_before chain known (commands_of script) n)
 
 -- all lines are within the limits, and the whole text was written
 pub record IsAnswered (chain : ChainHash) (known : Option (List ℕ)) (told : List ℕ → Type 0) (counts : Counts)
     (script : List ℕ) : Type 0 where
   pub lines : counts.lines ≡ length (lines_of script)
-  pub limit : counts.lines ≤ MAX_LINES
+  pub limit : counts.lines ≤ most_lines
   pub accepted : counts.accepted ≡ length (history_of chain (items_of (commands_of script)))
   pub text : IsTold chain known told script counts.lines
 
 -- one more line than the limit begins, and the text of the lines before it was written
 pub record IsTooMany (chain : ChainHash) (known : Option (List ℕ)) (told : List ℕ → Type 0)
     (script : List ℕ) : Type 0 where
-  pub more : MAX_LINES < length (lines_of script)
-  pub text : IsTold chain known told script MAX_LINES
+  pub more : most_lines < length (lines_of script)
+  pub text : IsTold chain known told script most_lines
 
 -- a line is too long, and the text of the lines before it was written
 pub record IsTooLong (chain : ChainHash) (known : Option (List ℕ)) (told : List ℕ → Type 0)
     (script : List ℕ) : Type 0 where
   pub place : ℕ
-  pub limit : place < MAX_LINES
-  pub long : MAX_LINE < length (slice_index_or (lines_of script) place [])
+  pub limit : place < most_lines
+  pub long : longest_line < length (slice_index_or (lines_of script) place [])
   pub text : IsTold chain known told script place
 
 -- the first n lines of a script were read, each to its line feed or to the end, if this is left of it
@@ -60,6 +59,6 @@ pub record AreRead (script : List ℕ) (left : Option (List ℕ)) (n : ℕ) : Ty
 pub record IsCutShort (chain : ChainHash) (known : Option (List ℕ)) (told_part : List ℕ → Type 0)
     (left : Option (List ℕ)) (script : List ℕ) : Type 0 where
   pub answered : ℕ
-  pub limit : answered ≤ MAX_LINES
+  pub limit : answered ≤ most_lines
   pub read : AreRead script left answered
   pub text : IsTold chain known told_part script answered

@@ -14,7 +14,7 @@ use crate::final_state::FinalState;
 use lgm_answers::{MAX_LINES, RunFault};
 use lgm_gossip::ChainHash;
 use lgm_graph::Known;
-use lgm_par::{Gate, MAX_WORKERS, Pool};
+use lgm_par::{Gate, Pool};
 use lgm_script::{
     BLOCK, LineReader, MAX_LINE, Output, ROOM, SendFault, Sink, Source, more_begins, next_group,
     next_line,
@@ -145,7 +145,7 @@ fn flush_answers<W: Sink>(
 /// Answers a whole script: its lines, in order, each depending on the lines before it (see the grammar in
 /// `docs/script.md`). Payments use no node that requires unknown features.
 ///
-/// The work is shared by 1 to [`MAX_WORKERS`] workers. Consecutive lines that are completely read ahead are processed
+/// The work is shared by 1 to 64 workers. Consecutive lines that are completely read ahead are processed
 /// together, at most 1,024 of items or of questions: they are parsed, checked and answered in chunks, each of which
 /// passes the gate, and written in order. Up to 64 items may each be a chunk; more are two chunks, and one more for
 /// each 128 KiB of their text. Neither the number of workers nor the gate affects what is written, nor do the random
@@ -165,7 +165,7 @@ pub fn run<Rt: Threads + Sync + RandomSource, G: Gate, R: Source, W: Sink>(
     workers: usize,
     gate: &G,
 ) -> Result<Counts, RunFault>
-    requires workers { (1 ≤ workers) × (workers ≤ MAX_WORKERS) }
+    requires workers { (1 ≤ workers) × (workers ≤ 64) }
     ensures runs { Runs chain.now known.now (R.seen reader.old) (R.seen reader.new) (W.seen writer.old)
         (W.seen writer.new) result }
 {

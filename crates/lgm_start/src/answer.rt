@@ -6,7 +6,7 @@ ghost use Rattle.lgm_start.specs.Ended.{AnswersAs};
 use crate::options::{Mode, Options};
 use lgm_answers::RunFault;
 use lgm_live::{LiveReport, run_live};
-use lgm_par::{Gate, MAX_WORKERS, Pool};
+use lgm_par::{Gate, Pool};
 use lgm_run::{Context, Counts, FinalState, run_keeping};
 use lgm_script::{Sink, Source};
 use std::alloc::Global;
@@ -35,7 +35,7 @@ pub fn answer<Rt: Threads + Wait + Sync + RandomSource, G: Gate, R: Source, W: S
     writer: &mut W,
     remains: &mut FinalState,
 ) -> Ended
-    requires { (1 ≤ options.now.workers) × (options.now.workers ≤ MAX_WORKERS) }
+    requires { (1 ≤ options.now.workers) × (options.now.workers ≤ 64) }
     ensures { AnswersAs options.now.mode options.now (R.seen reader.old) (R.seen reader.new)
         (W.seen writer.old) (W.seen writer.new) result }
 {

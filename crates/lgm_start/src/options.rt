@@ -20,7 +20,7 @@ use std::io::ErrorKind;
 const MAX_KNOWN: usize = 256;
 
 /// The program's version.
-const VERSION: &str = "1.0";
+const VERSION: &str = "1.1";
 
 /// The end of the help of `lgm run`: for the chain of the examples, and for mainnet.
 const RUN_EXAMPLES: &str = "\
@@ -184,7 +184,7 @@ fn options_of(alloc: Global, mode: Mode, words: &ArgMatches) -> Result<Options, 
         (λ options. AreKnown (first_value (found_of words.now) (codes "known")) options.known) }
     ensures workers { IfOk result
         (λ options. AreWorkers (one_text (found_of words.now) (codes "workers")) options.workers) }
-    ensures few { IfOk result (λ options. (1 ≤ options.workers) × (options.workers ≤ MAX_WORKERS)) }
+    ensures few { IfOk result (λ options. (1 ≤ options.workers) × (options.workers ≤ 64)) }
 {
     // `clap` has checked that they are 1 to `MAX_WORKERS`.
     let workers = words
@@ -212,7 +212,7 @@ pub fn read_words<E: Env + AllocGlobal>(env: &E) -> Result<Vec<String>, BadWords
 
 /// The options that arguments give, the program's name first.
 pub fn parse(alloc: Global, words: &[String]) -> Result<Options, BadWords>
-    ensures { IfOk result (λ options. (1 ≤ options.workers) × (options.workers ≤ MAX_WORKERS)) }
+    ensures { IfOk result (λ options. (1 ≤ options.workers) × (options.workers ≤ 64)) }
 {
     let command = program(alloc)?;
     let matches = match command.try_get_matches_from(words) {

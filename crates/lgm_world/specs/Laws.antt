@@ -6,7 +6,7 @@ use Rattle.lgm_store.specs.History.{fold}
 use Rattle.lgm_graph.specs.Edges.{edges_of}
 use Rattle.lgm_route.specs.declared.request.Request.{Request}
 use Rattle.lgm_route.specs.Choice.{answer_of}
-use Rattle.lgm_board.specs.declared.snapshot.TheConstants.{MAX_OPERATIONS}
+use Rattle.lgm_board.specs.Limits.{most_operations}
 use Rattle.lgm_world.specs.declared.event.Event.{Event}
 use Rattle.lgm_world.specs.declared.event.Event.TheVariants.{Append, Publish, Enter, Learn, Answer}
 use Rattle.lgm_world.specs.declared.event.Reply.TheVariants.{Routed}
@@ -30,7 +30,7 @@ brought_by (Answer eye request ∷ events) = brought_by events
 abbrev pub AreAppended : Type 0
 AreAppended =
     (known : Option (List ℕ)) (eyes : ℕ) (events : List Event)
-    → (world_of known eyes events).appended ≡ take MAX_OPERATIONS (brought_by events)
+    → (world_of known eyes events).appended ≡ take most_operations (brought_by events)
 
 -- an existing eye answers on the map of what it took last, with the known feature bits
 abbrev pub AreAnswered : Type 0

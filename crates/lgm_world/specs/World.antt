@@ -7,7 +7,7 @@ use Rattle.lgm_store.specs.History.{fold}
 use Rattle.lgm_graph.specs.Edges.{edges_of}
 use Rattle.lgm_route.specs.declared.fault.RouteFault.TheVariants as want
 use Rattle.lgm_route.specs.Choice.{answer_of}
-use Rattle.lgm_board.specs.declared.snapshot.TheConstants.{MAX_OPERATIONS}
+use Rattle.lgm_board.specs.Limits.{most_operations}
 use Rattle.lgm_world.specs.declared.world.Marks.{Marks}
 use Rattle.lgm_world.specs.declared.event.Event.{Event}
 use Rattle.lgm_world.specs.declared.event.Event.TheVariants.{Append, Publish, Enter, Learn, Answer}
@@ -59,7 +59,7 @@ no_eye world eye = if nat_lt eye (length world.eyes) then None else Some NoEye
 
 -- why an event is refused
 abbrev pub refusal : Standing → Event → Option WorldFault
-refusal world (Append op) = if length world.appended == MAX_OPERATIONS then Some Full else None
+refusal world (Append op) = if length world.appended == most_operations then Some Full else None
 refusal world Publish = None
 refusal world (Enter eye) = no_eye world eye
 refusal world (Learn eye) = no_eye world eye

@@ -4,6 +4,7 @@ ghost use Rattle.std.specs.Prelude.{◌≡◌, ◌≢◌, ◌≤◌, ◌⊎◌, 
 ghost use Rattle.lgm_store.specs.History.{fold};
 ghost use Rattle.lgm_graph.specs.Edges.{edges_of};
 ghost use Rattle.lgm_route.specs.Choice.{answer_of};
+ghost use Rattle.lgm_board.specs.Limits.{most_operations};
 ghost use Rattle.lgm_world.specs.World.{opening, refusal, outcome, after, IsStep};
 
 use crate::event::{Event, Reply, WorldFault};
@@ -21,7 +22,7 @@ fn find_route(
     history: &[Op],
     request: &Request,
 ) -> Result<Route, RouteFault>
-    requires { length history.now ≤ MAX_OPERATIONS }
+    requires { length history.now ≤ most_operations }
     ensures { (result ≡ Err RouteFault.NoMemory)
         ⊎ (result ≡ answer_of (edges_of known.now (fold history.now)) request.now) }
 {

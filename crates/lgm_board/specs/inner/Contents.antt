@@ -2,7 +2,7 @@
 use Rattle.std.specs.Prelude.{ℕ, ◌≤◌, List, Option, Some, None, length, IsSome}
 use Rattle.lgm_store.specs.Rows.{Rows}
 use Rattle.lgm_graph.specs.Network.{NetworkState}
-use Rattle.lgm_board.specs.declared.snapshot.TheConstants.{MAX_OPERATIONS}
+use Rattle.lgm_board.specs.Limits.{most_operations}
 use Rattle.lgm_board.specs.Handles.{History, Sight}
 
 -- the rows of a map, and what made them
@@ -28,4 +28,4 @@ known_in None = None
 pub record IsShown (network : NetworkState) (absorbed : ℕ) : Type 0 where
   pub viewed : IsSome network.graph
   pub few : length network.rows.channels ≤ absorbed
-  pub limited : absorbed ≤ MAX_OPERATIONS
+  pub limited : absorbed ≤ most_operations

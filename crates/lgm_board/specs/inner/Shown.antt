@@ -6,7 +6,7 @@ use lib.ListN.{get_elem?}
 use Rattle.logbook.specs.Pages.{Named}
 use Rattle.lgm_store.specs.declared.op.Op.{Op}
 use Rattle.lgm_store.specs.History.{fold}
-use Rattle.lgm_board.specs.declared.snapshot.TheConstants.{MAX_OPERATIONS}
+use Rattle.lgm_board.specs.Limits.{most_operations}
 use Rattle.lgm_board.specs.declared.snapshot.LogEntry.{LogEntry}
 use Rattle.lgm_board.specs.declared.snapshot.LogEntry.TheVariants.{Absorb, Reached}
 use Rattle.lgm_board.specs.Handles.{History, history}
@@ -68,4 +68,4 @@ Publishes done old new pending left =
 -- the word and the token of a pen's book, whose list is a prefix of the whole, and the number of operations appended
 abbrev pub IsNoted : Named → History → ℕ → History → Type 0
 IsNoted head noted appended all =
-    (head ≡ head_of noted.board) × GoesOn noted all × (appended ≡ length all.ops) × (appended ≤ MAX_OPERATIONS)
+    (head ≡ head_of noted.board) × GoesOn noted all × (appended ≡ length all.ops) × (appended ≤ most_operations)

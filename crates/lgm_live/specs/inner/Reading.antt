@@ -3,7 +3,7 @@ use Rattle.std.specs.Prelude.{◌≡◌, ◌≢◌, ℕ, ◌<◌, ◌≤◌, Lis
 use Rattle.lgm_script.specs.Device.{Input}
 use Rattle.lgm_script.specs.Output.{OutputState}
 use Rattle.lgm_script.specs.declared.command.Command.{Command}
-use Rattle.lgm_answers.specs.declared.run_fault.TheConstants.{MAX_LINES}
+use Rattle.lgm_answers.specs.Limits.{most_lines}
 use Rattle.lgm_answers.specs.Script.{commands_of}
 use Rattle.lgm_answers.specs.declared.run_fault.RunFault.{RunFault}
 use Rattle.lgm_answers.specs.declared.run_fault.RunFault.TheVariants as faults
@@ -23,14 +23,14 @@ pub record IsAsked (asked : List Command) (script : List ℕ) : Type 0 where
 -- all commands of a script were added
 pub record IsNoted (script : Option (List ℕ)) (old new : Gathered) : Type 0 where
   pub asked : List Command
-  pub few : length asked ≤ MAX_LINES
+  pub few : length asked ≤ most_lines
   pub noted : new ≡ with_lines old asked
   pub whole : IfSome script (IsAsked asked)
 
 -- the parsed script has all commands of a script, for this many workers
 pub record IsRead (workers : ℕ) (script : Option (List ℕ)) (parsed : Gathered) : Type 0 where
   pub asked : List Command
-  pub few : length asked ≤ MAX_LINES
+  pub few : length asked ≤ most_lines
   pub is_parsed : IsParsed workers asked parsed
   pub whole : IfSome script (IsAsked asked)
 

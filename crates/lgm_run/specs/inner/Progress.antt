@@ -2,7 +2,7 @@
 use Rattle.std.specs.Prelude.{◌≡◌, ◌≢◌, ℕ, ◌<◌, ◌≤◌, List, length, map, drop, Option, Result, Err, IfOk, IfErr, IfSome}
 use Rattle.std.specs.List.{AllByRecursion}
 use Rattle.lgm_wire.specs.declared.chain_hash.ChainHash.{ChainHash}
-use Rattle.lgm_script.specs.declared.line_reader.TheConstants.{MAX_LINE}
+use Rattle.lgm_answers.specs.Limits.{longest_line}
 use Rattle.lgm_script.specs.Lines.{IsFirstLine}
 use Rattle.lgm_script.specs.Groups.{AreFirstLines}
 use Rattle.lgm_script.specs.Command.{command_of}
@@ -19,7 +19,7 @@ use Rattle.lgm_run.specs.inner.Steps.{state_from, text_from}
 pub record AreNext (buffered : List ℕ) (first len : ℕ) (lines : List (List ℕ)) : Type 0 where
   pub some : 0 < length lines
   pub few : len ≤ length buffered
-  pub short : AllByRecursion (λ line. length line ≤ MAX_LINE) lines
+  pub short : AllByRecursion (λ line. length line ≤ longest_line) lines
   pub front : (left : Option (List ℕ)) → IsFirstLine buffered left first
       → AreFirstLines buffered left lines (drop len buffered)
 
