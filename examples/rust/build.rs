@@ -1,13 +1,40 @@
-//! Links the archive that `examples/build-c` makes: that of the folder `LGM_OUT`, or of `examples/out`.
+//! Links the library: that of the folder `LGM_LIBRARY_DIR`, its archive if there is one, or else what `pkg-config` finds.
 
 use std::env;
-use std::path::PathBuf;
+use std::path::Path;
+use std::process::Command;
+
+/// The version of the library, which the declarations of this crate are of.
+const VERSION: &str = "lgm = 3";
 
 fn main() {
-    let beside = PathBuf::from(env::var_os("CARGO_MANIFEST_DIR").expect("cargo sets it")).join("../out");
-    let out = env::var_os("LGM_OUT").map_or(beside, PathBuf::from);
-    println!("cargo::rerun-if-env-changed=LGM_OUT");
-    println!("cargo::rerun-if-changed={}", out.join("liblgm.a").display());
-    println!("cargo::rustc-link-search=native={}", out.display());
-    println!("cargo::rustc-link-lib=static=lgm");
+    println!("cargo::rerun-if-env-changed=LGM_LIBRARY_DIR");
+    match env::var_os("LGM_LIBRARY_DIR") {
+        Some(folder) => link_from(Path::new(&folder)),
+        None => link_found(),
+    }
+}
+
+/// Links the library of a folder.
+fn link_from(folder: &Path) {
+    let archive = folder.join("liblgm.a");
+    println!("cargo::rerun-if-changed={}", archive.display());
+    println!("cargo::rustc-link-search=native={}", folder.display());
+    println!("cargo::rustc-link-lib={}lgm", if archive.exists() { "static=" } else { "" });
+}
+
+/// Links the library that is installed.
+fn link_found() {
+    println!("cargo::rerun-if-env-changed=PKG_CONFIG_PATH");
+    let ran = Command::new("pkg-config").args(["--libs", VERSION]).output();
+    let Some(found) = ran.ok().filter(|output| output.status.success()) else {
+        panic!("pkg-config doesn't find {VERSION}: install it, or name the folder of liblgm.a in LGM_LIBRARY_DIR");
+    };
+    for word in String::from_utf8_lossy(&found.stdout).split_whitespace() {
+        if let Some(folder) = word.strip_prefix("-L") {
+            println!("cargo::rustc-link-search=native={folder}");
+        } else if let Some(library) = word.strip_prefix("-l") {
+            println!("cargo::rustc-link-lib={library}");
+        }
+    }
 }

@@ -1,8 +1,9 @@
 //! Tests the calls of the wrapper on a map of one channel. Prints `ok`, or panics where an answer differs.
 //!
-//!     cargo run --offline --example calls
+//!     LGM_LIBRARY_DIR=$PWD/../out cargo run --offline --example calls
 
-use lgm::{Edge, Estimate, Estimates, Fault, Found, Funding, Limit, Map, Overlay, Payment, Search, Sig, Which};
+use lgm::{Arrival, Channel, Direction, Edge, Estimate, Estimates, Fault, Found, Funding, Hop, Limit, Map, Node, Overlay};
+use lgm::{Payment, Record, Search, Sig, Which, write_payloads};
 use std::num::{NonZeroU8, NonZeroU16, NonZeroU64, NonZeroUsize};
 
 const CHAIN: [u8; 32] = [0xc1; 32];
@@ -17,6 +18,22 @@ const SCID: u64 = 600_000 << 40 | 1 << 16;
 fn announcement(behind: &[u8]) -> Vec<u8> {
     let scid = SCID.to_be_bytes();
     let parts: [&[u8]; 10] = [&[1, 0], &[0; 256], &[0, 0], &CHAIN, &scid, &A, &B, &A, &A, behind];
+    parts.concat()
+}
+
+/// A `channel_update` by A (BOLT 7).
+fn update() -> Vec<u8> {
+    let (scid, minimum, maximum) = (SCID.to_be_bytes(), 1_u64.to_be_bytes(), 50_000_000_u64.to_be_bytes());
+    let terms = [0, 0, 0, 5, 1, 0, 0, 40];
+    let fees = [0, 0, 0, 7, 0, 0, 0, 9];
+    let parts: [&[u8]; 8] = [&[1, 2], &[0; 64], &CHAIN, &scid, &terms, &minimum, &fees, &maximum];
+    parts.concat()
+}
+
+/// A `node_announcement` of B, with addresses of an unknown type.
+fn node(addresses: &[u8]) -> Vec<u8> {
+    let len = (addresses.len() as u16).to_be_bytes();
+    let parts: [&[u8]; 9] = [&[1, 1], &[0; 64], &[0, 0], &[0, 0, 0, 6], &B, &[1, 2, 3], &[b'b'; 32], &len, addresses];
     parts.concat()
 }
 
@@ -53,6 +70,32 @@ fn lists() -> Result<(), Fault> {
     assert_eq!(word(map.ban(&A)), "banned");
     assert_eq!(map.banned().collect::<Vec<_>>(), [A, B]);
     assert_eq!((map.count(), map.version()), (0, 3));
+    Ok(())
+}
+
+fn lookups() -> Result<(), Fault> {
+    let mut map = Map::new(&CHAIN, None, &SEED)?;
+    assert_eq!(word(map.channel(SCID)), "unknown-channel");
+    announce(&mut map, &[])?;
+    let bare = Channel { capacity_sat: 100_000, node_1: A, node_2: B, from_1: None, from_2: None };
+    assert_eq!((map.channel(SCID)?, word(map.node(&B))), (bare, "not-announced".into()));
+    let addresses = vec![77; 10_000];
+    map.offer(&update(), Sig::By(A), Funding::NotAsked)?;
+    map.offer(&node(&addresses), Sig::By(B), Funding::NotAsked)?;
+    let terms = Direction {
+        message_flags: 1,
+        channel_flags: 0,
+        cltv_expiry_delta: 40,
+        timestamp: 5,
+        fee_base_msat: 7,
+        fee_proportional_millionths: 9,
+        htlc_minimum_msat: 1,
+        htlc_maximum_msat: 50_000_000,
+    };
+    assert!(!terms.is_disabled() && Direction { channel_flags: 3, ..terms }.is_disabled());
+    assert_eq!(map.channel(SCID)?, Channel { from_1: Some(terms), ..bare });
+    assert_eq!(map.node(&B)?, Node { timestamp: 6, rgb: [1, 2, 3], alias: [b'b'; 32], addresses });
+    assert_eq!((word(map.node(&A)), map.nodes().collect::<Vec<_>>()), ("not-announced".into(), vec![B]));
     Ok(())
 }
 
@@ -125,6 +168,25 @@ fn overlays() -> Result<(), Fault> {
     Ok(())
 }
 
+/// One part of 10,000 msat of a payment of 30,000 (0x7530), whose payee gets metadata and a record (BOLT 4, "Payload Format").
+fn payloads() -> Result<(), Fault> {
+    let hop = |scid, amount_msat, from, to| Hop { scid, amount_msat, expiry: 700_000, from, to, payload: vec![] };
+    let mut hops = [hop(5, 10_005, A, B), hop(6, 10_000, B, C)];
+    let records = [Record { kind: 65_537, value: &[9] }];
+    let arrival = Arrival { total_msat: 30_000, metadata: &[1, 2], records: &records, secret: [7; 32] };
+    let same = [Record { kind: 65_537, value: &[] }; 2];
+    assert_eq!(word(write_payloads(&mut hops, &Arrival { records: &same, ..arrival })), "argument");
+    assert_eq!(word(write_payloads(&mut [], &arrival)), "argument");
+    assert!(hops.iter().all(|hop| hop.payload.is_empty()));
+    write_payloads(&mut hops, &arrival)?;
+    let both: [u8; 9] = [2, 2, 0x27, 0x10, 4, 3, 0x0a, 0xae, 0x60];
+    let forward: [&[u8]; 4] = [&[19], &both, &[6, 8, 0, 0, 0, 0, 0, 0, 0], &[6]];
+    assert_eq!(hops[0].payload, forward.concat());
+    let paid: [&[u8]; 6] = [&[56], &both, &[8, 34], &[7; 32], &[0x75, 0x30, 16, 2, 1, 2], &[0xfe, 0, 1, 0, 1, 1, 9]];
+    assert_eq!(hops[1].payload, paid.concat());
+    Ok(())
+}
+
 /// From B two hints lead to C: for 5 msat, and for 9.
 fn preferences() -> Result<(), Fault> {
     let map = Map::new(&CHAIN, None, &SEED)?;
@@ -170,11 +232,14 @@ fn estimates() -> Result<(), Fault> {
 }
 
 fn main() -> Result<(), Fault> {
+    assert_eq!(lgm::library_version(), lgm::LIBRARY_VERSION);
     lists()?;
+    lookups()?;
     published_maps()?;
     overlays()?;
     preferences()?;
     estimates()?;
+    payloads()?;
     println!("ok");
     Ok(())
 }

@@ -1,7 +1,7 @@
 //! Reads the announcements and the first payment of a script, and prints the payment's route, which another thread finds in
 //! the map as it was published.
 //!
-//!     cargo run --offline --example route -- ../payments.txt
+//!     LGM_LIBRARY_DIR=$PWD/../out cargo run --offline --example route -- ../payments.txt
 
 use lgm::{Fault, Funding, Map, Payment, Point, Sig};
 use std::error::Error;

@@ -4,18 +4,31 @@
 //! one call at a time, and is freed when the [`Map`] is dropped. A `Map` is `Send` and `Sync`. Threads that read beside one
 //! that changes a map take a published one each, by [`Map::publish`] and [`Map::share`].
 
+mod arrival;
 mod estimates;
+mod lookups;
 mod raw;
 
 use std::fmt;
 use std::num::{NonZeroU8, NonZeroU16, NonZeroU64, NonZeroUsize};
 use std::sync::{Mutex, MutexGuard, PoisonError};
 
+pub use arrival::{Arrival, Record, write_payloads};
 pub use estimates::Estimates;
+pub use lookups::{Channel, Direction, Node, Which};
 pub use raw::{Edge, Estimate, Limit};
 
 /// A compressed public key.
 pub type Point = [u8; 33];
+
+/// The version of the library that this crate is for, as its header has it.
+pub const LIBRARY_VERSION: u32 = 3;
+
+/// The version of the library that is linked.
+pub fn library_version() -> u32 {
+    // SAFETY: a call without arguments.
+    unsafe { raw::lgm_version() }
+}
 
 /// Why a call failed, by its number (`include/lgm.h`). The map is unchanged, or the estimates.
 #[derive(Clone, Copy, Debug, PartialEq, Eq)]
@@ -353,60 +366,6 @@ impl Map {
         check(unsafe { raw::lgm_wanted(&mut *self.handle(), bytes, len, &mut key) })?;
         Ok(if key[0] == 0 { None } else { Some(key) })
     }
-
-    /// The ids of all channels, ascending. Between two of them the map may change.
-    pub fn channels(&self) -> impl Iterator<Item = u64> + '_ {
-        // SAFETY: a handle of this crate, and a reference.
-        keys(0, |is_first, scid| unsafe { raw::lgm_next_channel(&mut *self.handle(), is_first, scid) })
-    }
-
-    /// The points of all nodes with an announcement, ascending byte by byte.
-    pub fn nodes(&self) -> impl Iterator<Item = Point> + '_ {
-        self.points(raw::lgm_next_node)
-    }
-
-    /// The points of all banned nodes, ascending byte by byte.
-    pub fn banned(&self) -> impl Iterator<Item = Point> + '_ {
-        self.points(raw::lgm_next_banned)
-    }
-
-    /// The points that a call goes through.
-    fn points(&self, call: raw::NextPointCall) -> impl Iterator<Item = Point> + '_ {
-        // SAFETY: a handle of this crate, and a reference.
-        keys([0; 33], move |is_first, point| unsafe { call(&mut *self.handle(), is_first, point) })
-    }
-
-    /// A message of a channel, as it was received; none if the map has no such update.
-    pub fn message(&self, scid: u64, which: Which) -> Result<Option<Vec<u8>>, Fault> {
-        let found = written(|room, room_len, needed| {
-            // SAFETY: a handle of this crate, references, and the length of the buffer.
-            unsafe { raw::lgm_channel_message(&mut *self.handle(), scid, which as u32, room, room_len, needed) }
-        });
-        match found {
-            Ok(message) => Ok(Some(message)),
-            Err(Fault::NONE) => Ok(None),
-            Err(fault) => Err(fault),
-        }
-    }
-
-    /// A node's announcement, as it was received.
-    pub fn node_message(&self, point: &Point) -> Result<Vec<u8>, Fault> {
-        written(|room, room_len, needed| {
-            // SAFETY: a handle of this crate, references, and the length of the buffer.
-            unsafe { raw::lgm_node_message(&mut *self.handle(), point, room, room_len, needed) }
-        })
-    }
-}
-
-/// A message of a channel.
-#[derive(Clone, Copy, Debug, PartialEq, Eq)]
-pub enum Which {
-    /// Its announcement.
-    Announcement = 0,
-    /// The update that node 1 sets.
-    Update1 = 1,
-    /// The update that node 2 sets.
-    Update2 = 2,
 }
 
 impl Drop for Map {
@@ -483,17 +442,6 @@ fn written(mut call: impl FnMut(*mut u8, usize, &mut usize) -> u32) -> Result<Ve
             Err(fault) => return Err(fault),
         }
     }
-}
-
-/// The keys that a call goes through, which it replaces by the next one each. A map in a [`Map`] is open, so a call has no
-/// fault but that there is none.
-fn keys<K: Copy>(mut key: K, mut call: impl FnMut(bool, &mut K) -> u32) -> impl Iterator<Item = K> {
-    let mut is_first = true;
-    std::iter::from_fn(move || {
-        let found = check(call(is_first, &mut key)).ok().map(|()| key);
-        is_first = false;
-        found
-    })
 }
 
 /// Messages one after the other, each after its length in eight bytes.

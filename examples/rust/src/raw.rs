@@ -126,6 +126,55 @@ pub struct Lengths {
     pub payloads: usize,
 }
 
+#[repr(C)]
+pub struct Record {
+    pub kind: u64,
+    pub value: *const u8,
+    pub value_len: usize,
+}
+
+#[repr(C)]
+pub struct Arrival {
+    pub total_msat: u64,
+    pub metadata: *const u8,
+    pub metadata_len: usize,
+    pub records: *const Record,
+    pub records_len: usize,
+    pub secret: [u8; 32],
+}
+
+#[repr(C)]
+#[derive(Default)]
+pub struct Direction {
+    pub is_held: bool,
+    pub message_flags: u8,
+    pub channel_flags: u8,
+    pub cltv_expiry_delta: u16,
+    pub timestamp: u32,
+    pub fee_base_msat: u32,
+    pub fee_proportional_millionths: u32,
+    pub htlc_minimum_msat: u64,
+    pub htlc_maximum_msat: u64,
+}
+
+#[repr(C)]
+#[derive(Default)]
+pub struct Channel {
+    pub capacity_sat: u64,
+    pub node_1: Point,
+    pub node_2: Point,
+    pub from_1: Direction,
+    pub from_2: Direction,
+}
+
+#[repr(C)]
+#[derive(Default)]
+pub struct Node {
+    pub timestamp: u32,
+    pub rgb: [u8; 3],
+    pub alias: [u8; 32],
+}
+
 /// Declares calls of one type, and that type.
 macro_rules! calls {
     ($type:ident: $($call:ident),* => $arguments:tt) => {
@@ -147,6 +196,7 @@ calls! {
 }
 
 unsafe extern "C" {
+    pub fn lgm_version() -> u32;
     pub fn lgm_word(number: u32, word: *mut [u8; 24]);
     pub fn lgm_open(
         map: *mut Handle,
@@ -170,6 +220,15 @@ unsafe extern "C" {
     pub fn lgm_close_channel(map: *mut Handle, scid: u64) -> u32;
     pub fn lgm_ban(map: *mut Handle, point: *const [u8; 33]) -> u32;
     pub fn lgm_next_channel(map: *mut Handle, is_first: bool, scid: *mut u64) -> u32;
+    pub fn lgm_channel(map: *mut Handle, scid: u64, channel: *mut Channel) -> u32;
+    pub fn lgm_node(
+        map: *mut Handle,
+        point: *const [u8; 33],
+        node: *mut Node,
+        addresses: *mut u8,
+        addresses_len: usize,
+        needed: *mut usize,
+    ) -> u32;
     pub fn lgm_channel_message(
         map: *mut Handle,
         scid: u64,
@@ -190,6 +249,14 @@ unsafe extern "C" {
     pub fn lgm_route(
         map: *mut Handle,
         payment: *const Payment,
+        hops: *mut Hop,
+        hops_len: usize,
+        payloads: *mut u8,
+        payloads_len: usize,
+        lengths: *mut Lengths,
+    ) -> u32;
+    pub fn lgm_payloads(
+        arrival: *const Arrival,
         hops: *mut Hop,
         hops_len: usize,
         payloads: *mut u8,

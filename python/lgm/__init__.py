@@ -1,0 +1,53 @@
+"""lgm, a verified map of Lightning gossip, from Python: classes `Map` and `Estimates` over the shared library of
+include/lgm.h.
+
+    with Map(chain=CHAIN) as network:
+        network.offer(message, sig=ALL_FOUR, funding=100_000)
+        route = network.route(payer, payee, amount_msat=1_000_000, expiry=900_000, secret=secret)
+
+What a payer knows beside the map is passed with a payment, and what failed when it is tried again:
+
+    limits = [Limit(hop.scid, hop.start, hop.amount_msat - 1)]   # of the hop that couldn't carry the amount
+    route = network.route(.., edges=own_channels + hints, silent=[payer], limits=limits, most_delay=1_008)
+
+What it learns from its tries is kept in `Estimates`, and a route by what it prefers takes account of that:
+
+    with Estimates() as estimates:
+        route = network.route(.., preferences=Preferences(failure_msat=20_000, hop_msat=500), estimates=estimates)
+        estimates.carried(hop.scid, hop.start, hop.amount_msat)   # of each hop before
+        estimates.failed(hop.scid, hop.start, hop.amount_msat)    # of the hop that couldn't carry the amount
+
+The payloads of a part of a payment in several, with the metadata of its invoice or with custom records:
+
+    payloads(route, secret, total_msat=3_000_000, metadata=metadata, records={5482373484: preimage})   # hop by hop
+
+Messages, points, chains and secrets are `bytes`, `bytearray` or `memoryview`. An argument of another type raises
+TypeError, and one out of its range ValueError, before the library is called. A call that fails raises the class of its
+fault, such as `NotNewer`; all of these are subclasses of `Fault`. Any thread may use a `Map`, and `Estimates`: the calls
+of one wait for one another. Threads that are to read at once take a published map each, which never changes:
+
+    latest = network.publish()   # by the thread that changes the map
+    mine = latest.share()        # by each thread that reads: it waits for nobody, and nobody for it
+
+The library is loaded for the first `Map`. It is the file that LGM_LIBRARY names; else the one in this package; else, in a
+clone, the one in `examples/out`, where `examples/build-c` puts it; else the system's. `lgm.dump` writes a map to a file.
+"""
+
+from .arrival import payloads
+from .estimates import Estimates
+from .faults import (AmountTooLarge, AmountZero, Argument, Banned, Chain, Closed, Conflict, ExpiryTooLarge, Fault, Full, Funding,
+                     Ignored, Known, Malformed, NodeOrder, NoMemory, NoRoute, NotAnnounced, NotFilter, NotGossip, Nothing,
+                     NotNewer, NotQuery, Open, Point, Private, Published, Refused, Room, SelfPayment, Signature, Undecided,
+                     UnknownChannel, UnknownEven, UnknownNode, Unrouted)
+from .map import ANNOUNCEMENT, UPDATE_1, UPDATE_2, Map
+from .packing import ALL_FOUR, NOBODY, NOT_ALL_FOUR, NOT_ASKED, SPENT, WRONG
+from .records import Channel, Direction, Edge, Estimate, Hop, Limit, Node, Preferences, Route, short_channel_id
+
+__all__ = [
+    "ALL_FOUR", "ANNOUNCEMENT", "AmountTooLarge", "AmountZero", "Argument", "Banned", "Chain", "Channel", "Closed", "Conflict",
+    "Direction", "Edge", "Estimate", "Estimates", "ExpiryTooLarge", "Fault", "Full", "Funding", "Hop", "Ignored", "Known",
+    "Limit", "Malformed", "Map", "NOBODY", "NOT_ALL_FOUR", "NOT_ASKED", "NoMemory", "NoRoute", "Node", "NodeOrder",
+    "NotAnnounced", "NotFilter", "NotGossip", "NotNewer", "NotQuery", "Nothing", "Open", "Point", "Preferences", "Private",
+    "Published", "Refused", "Room", "Route", "SPENT", "SelfPayment", "Signature", "UPDATE_1", "UPDATE_2", "Undecided",
+    "UnknownChannel", "UnknownEven", "UnknownNode", "Unrouted", "WRONG", "payloads",
+    "short_channel_id"]

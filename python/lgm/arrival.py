@@ -1,0 +1,65 @@
+"""What the payee gets beside the route: payloads of a part of a payment, with metadata and custom records."""
+
+from __future__ import annotations
+
+import ctypes
+from typing import Any, List, Mapping, Optional, Tuple
+
+from . import library
+from .faults import check
+from .library import Buffer, Octets, number, octets
+from .records import Hop, Route
+
+# The least type of a custom record.
+FIRST_CUSTOM = 65_536
+
+
+def payloads(route: Route, secret: Octets, total_msat: Optional[int] = None, metadata: Optional[Octets] = None,
+             records: Optional[Mapping[int, Octets]] = None) -> Tuple[bytes, ...]:
+    """The payloads of a route's hops, in their order, for a payee that gets more than `Map.route` tells it: the total of all
+    parts of the payment, if this is one of several; the payment metadata of its invoice; and custom records, by their types.
+    Empty metadata are none.
+
+    Raises `Argument` if the hops aren't 1 to 20 that follow one another, or the payloads don't fit an onion packet."""
+    if not isinstance(route, Route):
+        raise TypeError(f"a route is of the class Route, and not {type(route).__name__}")
+    hops, count = b"".join(map(_packed_hop, route.hops)), len(route.hops)
+    if total_msat is None:
+        total_msat = route.hops[-1].amount_msat if route.hops else 0
+    held: List[Any] = []
+    arrival = library.ARRIVAL.pack(
+        number("total_msat", total_msat, 2**64), *_lent(octets("metadata", b"" if metadata is None else metadata), held),
+        *_packed_records({} if records is None else records, held), octets("a secret", secret, 32))
+    written, made = ctypes.create_string_buffer(hops, max(len(hops), 1)), Buffer(library.MOST_PAYLOADS)
+    lengths = Buffer(library.LENGTHS.size)
+    check(library.load().lgm_payloads(arrival, ctypes.addressof(written), count, made.at, library.MOST_PAYLOADS, lengths.at))
+    return tuple(_split(made, [hop[2] for hop in library.HOP.iter_unpack(written.raw[:len(hops)])]))
+
+
+def _packed_hop(hop: Hop) -> bytes:
+    """A hop, without a payload."""
+    return library.HOP.pack(number("an id", hop.scid, 2**64), number("amount_msat", hop.amount_msat, 2**64), 0,
+                            number("expiry", hop.expiry, 2**32), octets("a point", hop.start, 33), octets("a point", hop.end, 33))
+
+
+def _lent(value: bytes, held: List[Any]) -> Tuple[int, int]:
+    """The address of bytes, which last as long as what is held, and their number."""
+    held.append(ctypes.create_string_buffer(value, max(len(value), 1)))
+    return ctypes.addressof(held[-1]), len(value)
+
+
+def _packed_records(records: Mapping[int, Octets], held: List[Any]) -> Tuple[int, int]:
+    """The address of custom records by ascending types, and their number."""
+    packed = [library.RECORD.pack(number("a type", kind, 2**64, least=FIRST_CUSTOM), *_lent(octets("a record", value), held))
+              for kind, value in sorted(records.items())]
+    return _lent(b"".join(packed), held)[0], len(packed)
+
+
+def _split(made: Buffer, lengths: List[int]) -> List[bytes]:
+    """The payloads, which stand one after the other."""
+    joined, end = made.front(sum(lengths)), 0
+    found = []
+    for length in lengths:
+        start, end = end, end + length
+        found.append(joined[start:end])
+    return found

@@ -1,0 +1,55 @@
+"""A handle of the library, whose calls wait for one another."""
+
+from __future__ import annotations
+
+import threading
+from functools import wraps
+from types import TracebackType
+from typing import Any, Callable, ClassVar, Optional, Type, TypeVar, cast
+
+from . import library
+
+Method = TypeVar("Method", bound=Callable[..., Any])
+Kind = TypeVar("Kind", bound="Handle")
+
+
+def alone(method: Method) -> Method:
+    """A method during which no other one of the object runs, since all of them use its handle and its buffers."""
+    @wraps(method)
+    def locked(self: Handle, *arguments: Any, **named: Any) -> Any:
+        with self._lock:
+            return method(self, *arguments, **named)
+    return cast(Method, locked)
+
+
+class Handle:
+    """A handle of a map or of estimates."""
+
+    _free: ClassVar[str]  # the name of the call that frees it
+
+    def _set_up(self) -> None:
+        """Sets a closed handle, with the lock of its calls."""
+        self._lock = threading.Lock()
+        self._handle = library.Buffer(library.SIZE_OF_HANDLE)
+        self._at = self._handle.at
+        self._library = library.load()
+
+    @alone
+    def close(self) -> None:
+        """Frees what it has. Later calls raise `Closed`."""
+        getattr(self._library, self._free)(self._at)
+
+    def __enter__(self: Kind) -> Kind:
+        return self
+
+    def __exit__(self, kind: Optional[Type[BaseException]], fault: Optional[BaseException],
+                 trace: Optional[TracebackType]) -> None:
+        self.close()
+
+    def __del__(self) -> None:
+        if hasattr(self, "_library"):
+            self.close()
+
+    def __bool__(self) -> bool:
+        """It is true, also if its length is 0."""
+        return True

@@ -1,0 +1,341 @@
+#!/usr/bin/env python3
+"""Tests what the classes take and refuse before the library is called. A stub stands for the library.
+
+    PYTHONPATH=python python3 python/tests/test_lgm.py
+
+examples/test_embedding.py tests the rest, with the library.
+"""
+
+import ctypes
+import os
+import sys
+import tempfile
+from dataclasses import replace
+from pathlib import Path
+
+sys.dont_write_bytecode = True  # the repository gets no made files
+
+import lgm
+
+CHAIN, POINT, SECRET = bytes(32), b"\2" + bytes(32), bytes(32)
+PAYMENT = {"payer": POINT, "payee": POINT, "amount_msat": 1, "expiry": 1, "secret": SECRET}
+EDGE, LIMIT, ESTIMATE = lgm.Edge(1, POINT, POINT), lgm.Limit(1, POINT), lgm.Estimate(1, 2, 3)
+
+
+class Stub:
+    """A library whose calls all succeed, and are kept."""
+
+    def __init__(self):
+        self.calls = []
+
+    def __getattr__(self, name):
+        def call(_, *arguments):
+            self.calls.append((name, *arguments))
+            return 0
+        return call
+
+
+def over_edge(network, name):
+    """A payment over an edge beside the map's, with a value in one of its fields."""
+    return lambda value: network.route(**PAYMENT, edges=[replace(EDGE, **{name: value})])
+
+
+def over_limit(network, name):
+    """The same over a limit."""
+    return lambda value: network.route(**PAYMENT, limits=[replace(LIMIT, **{name: value})])
+
+
+def over_preference(network, name):
+    """The same by what the payer prefers."""
+    return lambda value: network.route(**PAYMENT, preferences=lgm.Preferences(**{name: value}))
+
+
+def over_estimate(estimates, name):
+    """An estimate with a value in one of its fields."""
+    return lambda value: estimates.set(1, POINT, replace(ESTIMATE, **{name: value}))
+
+
+def refusal(call, *arguments, **named):
+    """The class of what a call raises, with a text."""
+    try:
+        call(*arguments, **named)
+    except (TypeError, ValueError) as fault:
+        assert str(fault)
+        return type(fault)
+    return None
+
+
+def fault(call, *arguments, **named):
+    """The class of the fault that a call raises."""
+    try:
+        call(*arguments, **named)
+    except lgm.Fault as raised:
+        return type(raised)
+    return None
+
+
+def numbers_have_ranges(network):
+    """No number is cut to the type that C has for it, and none is made of something else."""
+    for call, below in ((network.close_channel, 2**64), (network.channel, 2**64), (network.message, 2**64),
+                        (lambda which: network.message(0, which), 2**32),
+                        (lambda sat: network.offer(b"", lgm.ALL_FOUR, sat), 2**64),
+                        (lambda msat: network.route(**{**PAYMENT, "amount_msat": msat}), 2**64),
+                        (lambda expiry: network.route(**{**PAYMENT, "expiry": expiry}), 2**32),
+                        (over_preference(network, "failure_msat"), 2**32), (over_preference(network, "hop_msat"), 2**32),
+                        *((over_edge(network, name), below) for name, below in (
+                            ("scid", 2**64), ("htlc_minimum_msat", 2**64), ("htlc_maximum_msat", 2**64),
+                            ("fee_base_msat", 2**32), ("fee_proportional_millionths", 2**32),
+                            ("cltv_expiry_delta", 2**16))),
+                        *((over_limit(network, name), 2**64) for name in ("scid", "most_msat"))):
+        for value in (-1, below, below + 1000):
+            assert refusal(call, value) is ValueError, (call, value)
+        for value in (1.0, True, None, b"1"):
+            assert refusal(call, value) is TypeError, (call, value)
+
+
+def limits_of_a_search_are_from_1_on(network):
+    """0 would stand for none in C, so it is refused, and None stands for none."""
+    for name, most in (("most_delay", 65_535), ("most_hops", 20), ("most_labels", 2**64 - 1), ("most_steps", 2**64 - 1)):
+        for value in (-1, 0, most + 1):
+            assert refusal(network.route, **PAYMENT, **{name: value}) is ValueError, (name, value)
+        for value in (1.0, True, b"1"):
+            assert refusal(network.route, **PAYMENT, **{name: value}) is TypeError, (name, value)
+
+
+def what_is_preferred_has_a_class(network):
+    """Preferences and estimates are of their classes, or None."""
+    for preferences in ((1, 2), {"hop_msat": 1}, 1, LIMIT):
+        assert refusal(network.route, **PAYMENT, preferences=preferences) is TypeError
+    for estimates in ({}, [ESTIMATE], ESTIMATE, network, 0):
+        assert refusal(network.route, **PAYMENT, estimates=estimates) is TypeError
+
+
+def bytes_have_types_and_lengths(network):
+    """Texts, numbers and lists aren't bytes; a point, a chain, a seed and a secret have their lengths."""
+    calls = [network.query, network.filter, network.news, network.offer, network.wanted, network.node, network.node_message,
+             network.ban, lgm.Map,
+             lambda sig: network.offer(b"", 0 if isinstance(sig, str) else sig),
+             lambda seed: lgm.Map(CHAIN, seed=seed if seed is not None else 0),
+             lambda known: lgm.Map(CHAIN, known=known if known is not None else 0),
+             *(lambda value, name=name: network.route(**{**PAYMENT, name: value})
+               for name in ("payer", "payee", "secret")),
+             over_edge(network, "start"), over_edge(network, "end"), over_limit(network, "start"),
+             lambda point: network.route(**PAYMENT, silent=[POINT, point])]
+    for number, call in enumerate(calls):
+        for value in ("00" * 33, 33, [0] * 33, None):
+            assert refusal(call, value) is TypeError, (number, value)
+    for number, call in enumerate(calls[5:]):
+        wanted = None if number == 6 else ValueError  # the feature bits are of any length
+        assert refusal(call, bytes(31)) is refusal(call, bytes(34)) is wanted, number
+
+
+def estimates_are_of_edges(estimates):
+    """An edge has an id and a point, an estimate its class, and each number its range."""
+    calls = (lambda scid: estimates.get(scid, POINT), lambda scid: estimates.forget(scid, POINT),
+             lambda scid: estimates.set(scid, POINT, ESTIMATE), lambda scid: estimates.carried(scid, POINT, 1),
+             lambda scid: estimates.failed(scid, POINT, 1), lambda msat: estimates.carried(1, POINT, msat),
+             lambda msat: estimates.failed(1, POINT, msat), over_estimate(estimates, "least_msat"),
+             over_estimate(estimates, "most_msat"))
+    for call, below in (*((call, 2**64) for call in calls), (over_estimate(estimates, "penalty_msat"), 2**64)):
+        for value in (-1, below):
+            assert refusal(call, value) is ValueError
+        for value in (1.0, True, None, b"1"):
+            assert refusal(call, value) is TypeError
+    for call in (lambda point: estimates.get(1, point), lambda point: estimates.forget(1, point),
+                 lambda point: estimates.set(1, point, ESTIMATE), lambda point: estimates.carried(1, point, 1),
+                 lambda point: estimates.failed(1, point, 1)):
+        for value in ("00" * 33, 33, None):
+            assert refusal(call, value) is TypeError
+        for value in (bytes(32), bytes(34)):
+            assert refusal(call, value) is ValueError
+    for value in (LIMIT, (1, 2, 3), None):
+        assert refusal(estimates.set, 1, POINT, value) is TypeError
+
+
+def verdicts_are_named(network):
+    """A verdict that is none is told."""
+    for sig in ("ALL", "02" + "00" * 32, ""):
+        assert refusal(network.offer, b"", sig) is ValueError
+    for funding in ("100000", "unspent", ""):
+        assert refusal(network.offer, b"", lgm.ALL_FOUR, funding) is ValueError
+
+
+def lists_have_classes(network):
+    """A limit is no edge, a hop is no limit, and a point alone isn't a list of points."""
+    for edges in ([LIMIT], [POINT], [None], EDGE):
+        assert refusal(network.route, **PAYMENT, edges=edges) is TypeError
+    for limits in ([EDGE], [(1, POINT, 0)], LIMIT):
+        assert refusal(network.route, **PAYMENT, limits=limits) is TypeError
+    assert refusal(network.route, **PAYMENT, silent=POINT) is TypeError
+
+
+def asked(library, network, **known):
+    """The arguments of the call that a payment makes, behind the map and the payment."""
+    del library.calls[:]
+    network.route(**PAYMENT, **known)
+    (name, _, *arguments), = library.calls
+    assert name == "lgm_route_over"
+    return arguments
+
+
+def what_a_payer_knows_is_packed(library, network):
+    """Edges, limits and silent nodes come to the library as C has them."""
+    edge = lgm.Edge(2**64 - 1, POINT, b"\3" * 33, 2**32 - 1, 2, 3, 4)
+    limit = lgm.Limit(5, bytearray(POINT), 6)
+    edges, edges_len, limits, limits_len, silent, silent_len, *_ = asked(
+        library, network, edges=iter([edge, EDGE]), limits=(limit,), silent=[POINT, CHAIN + b"7"])
+    assert (edges_len, limits_len, silent_len) == (2, 1, 2)
+    assert lgm.library.EDGE.unpack_from(edges) == (2**64 - 1, 4, 2**64 - 1, 2**32 - 1, 2, 3, POINT, b"\3" * 33)
+    assert lgm.library.EDGE.unpack_from(edges, 104) == (1, 0, 2**64 - 1, 0, 0, 0, POINT, POINT) and len(edges) == 2 * 104
+    assert lgm.library.LIMIT.unpack(limits) == (5, 6, POINT) and len(limits) == 56
+    assert silent == POINT + CHAIN + b"7"
+
+
+def what_a_payer_prefers_is_packed(library, network, estimates):
+    """Preferences and limits come to the library as C has them, what is left out as 0, and no estimates as a closed handle."""
+    *_, handle, search, _hops, hops_len, _payloads, payloads_len, _lengths = asked(
+        library, network, preferences=lgm.Preferences(2**32 - 1, 5), estimates=estimates, most_delay=65_535, most_hops=20,
+        most_labels=2**64 - 1, most_steps=7)
+    assert lgm.library.SEARCH.unpack(search) == (7, 2**64 - 1, 2**32 - 1, 5, 65_535, 20) and len(search) == 32
+    assert (handle, hops_len, payloads_len) == (estimates._at, 20, 1_300)
+    for preferences in (None, lgm.Preferences()):
+        *_, handle, search, _hops, _hops_len, _payloads, _payloads_len, _lengths = asked(
+            library, network, preferences=preferences)
+        assert search == bytes(32) and ctypes.string_at(handle, 16) == bytes(16)
+    assert asked(library, network, most_delay=1)[7] == lgm.library.SEARCH.pack(0, 0, 0, 0, 1, 0)
+
+
+class Answering(Stub):
+    """A library that answers payments with a number, while it tries whether the estimates are taken."""
+
+    def __init__(self, number):
+        super().__init__()
+        self.number, self.estimates, self.is_taken = number, None, None
+
+    def lgm_route_over(self, *_):
+        self.is_taken = self.estimates._lock.locked()
+        return self.number
+
+
+def routes_tell_whether_they_are_the_best():
+    """A route of the number 27 may not be the best one. Meanwhile no other call has the estimates, and then each may."""
+    for number, is_best in ((0, True), (27, False)):
+        library = Answering(number)
+        lgm.library.load = lambda: library
+        network, library.estimates = lgm.Map(CHAIN), lgm.Estimates()
+        route = network.route(**PAYMENT, estimates=library.estimates)
+        assert route == lgm.Route((), is_best) and library.is_taken
+        assert len(library.estimates) == 0 and not library.estimates._lock.locked()
+        assert network.route(**PAYMENT).is_best is is_best and not library.is_taken
+    library.number = 26
+    assert fault(network.route, **PAYMENT, estimates=library.estimates) is lgm.Undecided
+    assert not library.estimates._lock.locked() and not network._lock.locked()
+    assert lgm.Route(()) == lgm.Route((), True) != lgm.Route((), False)
+
+
+def what_is_believed_is_packed(library, estimates):
+    """An estimate comes to the library as C has it, with the id and the point of its edge."""
+    del library.calls[:]
+    estimates.set(2**64 - 1, bytearray(POINT), lgm.Estimate(1, 2, 2**64 - 1))
+    estimates.set(0, POINT, lgm.Estimate())
+    (*first, known), (*_, unknown) = library.calls
+    assert first == ["lgm_estimates_set", 2**64 - 1, POINT]
+    assert lgm.library.ESTIMATE.unpack(known) == (1, 2, 2**64 - 1) and len(known) == 24
+    assert lgm.library.ESTIMATE.unpack(unknown) == (0, 2**64 - 1, 0)
+    assert bool(estimates) and len(estimates) == 0 and list(estimates) == []
+
+
+class Writer(Stub):
+    """A library that writes this many bytes to each buffer that has room for them."""
+
+    def __init__(self, length):
+        super().__init__()
+        self.length = length
+
+    def lgm_query(self, _at, _message, _message_len, _room, room_len, needed):
+        ctypes.c_size_t.from_address(needed).value = self.length
+        return 0 if self.length <= room_len else 104
+
+
+def large_buffers_are_given_back():
+    """A buffer of a few bytes is kept from call to call, and one of megabytes isn't."""
+    for length, is_kept in ((5_000, True), (5_000_000, False)):
+        lgm.library.load = lambda: Writer(length)
+        network = lgm.Map(CHAIN)
+        before = network._room
+        network._written(network._library.lgm_query, b"", 0)
+        assert (network._room.length > before.length) is is_kept and network._room.length <= 1 << 20
+
+
+def a_map_is_true(network):
+    """Also one without channels, whose length is 0."""
+    assert bool(network) and len(network) == 0
+
+
+def bytes_of_any_kind_are_taken(network, library):
+    """A `bytearray` and a `memoryview` come to the library as `bytes`."""
+    for kind in (bytes, bytearray, memoryview):
+        del library.calls[:]
+        network.offer(kind(b"\1\0"), sig=kind(POINT), funding=2**64 - 1)
+        network.close_channel(2**64 - 1)
+        assert library.calls == [("lgm_offer", b"\1\0", 2, 2, POINT, 1, 2**64 - 1), ("lgm_close_channel", 2**64 - 1)]
+
+
+def ids_have_parts():
+    """An id is of three numbers, of 24, 24 and 16 bits."""
+    assert lgm.short_channel_id("600000x1x0") == 600000 << 40 | 1 << 16
+    assert lgm.short_channel_id("16777215x16777215x65535") == 2**64 - 1
+    for text in ("16777216x0x0", "0x16777216x0", "0x0x65536", "1x1", "1x1x1x1", "-1x0x0", "1_0x0x0", "1x0x0\n", "1:0:0",
+                 ""):
+        assert refusal(lgm.short_channel_id, text) is ValueError, text
+    assert refusal(lgm.short_channel_id, 600000) is TypeError
+
+
+def the_library_is_found_in_order():
+    """The file that the environment names goes before those that may be there, and the system's name comes last."""
+    library, named = lgm.library, os.environ.pop("LGM_LIBRARY", None)
+    with tempfile.TemporaryDirectory() as folder:
+        kept, library.PLACES = library.PLACES, (Path(folder, "first"), Path(folder, "second"))
+        assert library.place() == "liblgm.so.3"
+        for place in reversed(library.PLACES):
+            place.touch()
+            assert library.place() == str(place)
+        os.environ["LGM_LIBRARY"] = "named"
+        assert library.place() == os.environ.pop("LGM_LIBRARY")
+    library.PLACES = kept
+    if named is not None:
+        os.environ["LGM_LIBRARY"] = named
+
+
+def each_fault_has_a_name():
+    """Each class of a fault is a name of the package, and so is all that it says it exports."""
+    assert {kind.__name__ for kind in lgm.faults.FAULTS.values()} <= {*lgm.__all__}
+    assert all(hasattr(lgm, name) for name in lgm.__all__)
+
+
+def main():
+    """Runs each test, and looks that nothing refused came to the library."""
+    library = Stub()
+    lgm.library.load = lambda: library
+    network, estimates = lgm.Map(CHAIN), lgm.Estimates()
+    refusing = (numbers_have_ranges, bytes_have_types_and_lengths, verdicts_are_named, lists_have_classes,
+                limits_of_a_search_are_from_1_on, what_is_preferred_has_a_class)
+    for test in refusing:
+        test(network)
+    estimates_are_of_edges(estimates)
+    assert {name for name, *_ in library.calls} <= {"lgm_open", "lgm_free", "lgm_estimates_open"}
+    bytes_of_any_kind_are_taken(network, library)
+    what_a_payer_knows_is_packed(library, network)
+    what_a_payer_prefers_is_packed(library, network, estimates)
+    what_is_believed_is_packed(library, estimates)
+    a_map_is_true(network)
+    ids_have_parts()
+    the_library_is_found_in_order()
+    each_fault_has_a_name()
+    large_buffers_are_given_back()
+    routes_tell_whether_they_are_the_best()
+    print(f"{len(refusing) + 11} passed")
+
+
+if __name__ == "__main__":
+    main()

@@ -1,0 +1,332 @@
+#!/usr/bin/env python3
+"""Makes the packages, and tries them in a root of their own, where neither the kit nor this repository is.
+
+    python3 tests/packages.py [--debootstrap]
+
+The root has this machine's `/usr`, `/etc` and `/var` below a layer that takes what is written, without `/usr/local`, and has
+no network. There the package for Debian is installed, used as the pages say, and removed; the wheel is installed, and the
+tests of the Python package run with it; and the archive is unpacked and moved. What is compared with stands in the pages and
+in the examples. With `--debootstrap` the root is a bare Debian, of this machine's release, which is fetched first, and the
+compilers and Python with it; that takes some minutes.
+
+It needs what `./package` needs, and to be root, with leave to mount. Without that it ends with status 77, and says so. So it
+does of those of its tests whose tool isn't there.
+"""
+
+import argparse
+import base64
+import hashlib
+import os
+import re
+import shutil
+import subprocess
+import sys
+import tempfile
+import time
+import zipfile
+from pathlib import Path
+
+sys.dont_write_bytecode = True  # the repository gets no made files
+
+TOP = Path(__file__).resolve().parent.parent
+sys.path.insert(1, str(TOP / "examples"))
+
+from blocks import block
+from clean_root import bare, layered, succeeds, with_own_mounts
+
+SKIPPED = 77
+VERSION = (TOP / "VERSION").read_text().strip()
+ANSWERS = (TOP / "examples" / "payments.out").read_bytes()
+FIRST_C = block("docs/embedding.md", "#include <lgm.h>")
+BUILD, _, SAID = block("docs/embedding.md", "$ cc first.c $(pkg-config").partition("\n")
+FIRST_PYTHON = block("docs/embedding.md", "from lgm import ALL_FOUR, Map")
+# What the tests of the Python package need of the repository, beside themselves.
+BESIDE = ("python/tests", "examples/payments.txt", "bench", "gossip")
+OLDEST_GLIBC = (2, 34)
+
+failures = 0
+
+
+def report(what, is_right):
+    """Prints how a test went."""
+    global failures
+    failures += not is_right
+    print(f"{what}: {'ok' if is_right else 'DIFFERS'}", flush=True)
+
+
+def leave_out(what, why):
+    """Says that a test isn't run."""
+    print(f"left out: {what}, since {why}", flush=True)
+
+
+def say_of(ran):
+    """Shows what a command said, if it failed."""
+    if ran.returncode:
+        sys.stdout.write((ran.stdout + ran.stderr).decode(errors="replace"))
+    return ran
+
+
+def made_packages(folder):
+    """Makes the packages, and once more with other settings. Their folder."""
+    for name, settings in (("first", {}), ("second", {"TZ": "Asia/Tokyo", "LC_ALL": "C"})):
+        (folder / name).mkdir()
+        before = os.umask(0o077 if settings else 0o022)
+        subprocess.run((TOP / "package", folder / name), env={**os.environ, **settings}, cwd=folder, check=True)
+        os.umask(before)
+    first, second = ({file.name: file.read_bytes() for file in (folder / name).iterdir()} for name in ("first", "second"))
+    report("the same packages twice", len(first) == 3 and first == second)
+    return folder / "first"
+
+
+def versions_agree():
+    """The program, the changelog and the crate have the version of the packages; the wrappers have the library's."""
+    def found(pattern, file):
+        return re.search(pattern, (TOP / file).read_text(), flags=re.MULTILINE)[1]
+
+    program = found(r'^const VERSION: &str = "(.*)"', "crates/lgm_start/src/options.rt")
+    report(f"the version {program} of the program's source", program == VERSION)
+    report("the version in the changelog", found(r"^## (\S+) \(\d{4}-\d\d-\d\d\)$", "CHANGELOG.md") == VERSION)
+    report("the version of the package in the README", found(r"lgm_(.*)_amd64\.deb", "README.md") == VERSION)
+    report("the version of the archive in the README", found(r"lgm-(.*)-x86_64-linux\.tar\.gz", "README.md") == VERSION)
+    report("the version in docs/operating.md", found(r"`lgm --version`: `lgm (.*)`, the file", "docs/operating.md") == VERSION)
+    report("the version of the crate", found(r'^version = "(.*)"', "examples/rust/Cargo.toml") == f"{VERSION}.0")
+    library = found(r"^#define LGM_VERSION (\d+)", "include/lgm.h")
+    for pattern, file in ((r"^VERSION = (\d+)", "python/lgm/library.py"), (r'"lgm = (\d+)"', "examples/rust/build.rs"),
+                          (r"LIBRARY_VERSION: u32 = (\d+)", "examples/rust/src/lib.rs")):
+        report(f"the version of the library in {file}", found(pattern, file) == library)
+
+
+def record_is_right(wheel):
+    """The wheel lists its files, with what they have."""
+    with zipfile.ZipFile(wheel) as archive:
+        own = f"lgm-{VERSION}.dist-info/RECORD"
+        lines = dict(line.split(",", 1) for line in archive.read(own).decode().splitlines())
+        right = lines.pop(own) == "," and {*lines, own} == {*archive.namelist()}
+        for name, told in lines.items():
+            content = archive.read(name)
+            digest = base64.urlsafe_b64encode(hashlib.sha256(content).digest()).decode().rstrip("=")
+            right &= told == f"sha256={digest},{len(content)}"
+    report("the wheel's list of its files", right)
+
+
+def symbols_are_old_enough(root, *files):
+    """Nothing asks for a later glibc than the packages say."""
+    if not root.has("readelf"):
+        leave_out("the glibc that the packages need", "there is no readelf")
+        return
+    for file in files:
+        said = root.run(("readelf", "--version-info", "--wide", file)).stdout.decode()
+        versions = {tuple(map(int, text.split("."))) for text in re.findall(r"Name: GLIBC_([\d.]+)", said)}
+        report(f"the glibc that {Path(file).name} needs", versions and max(versions) <= OLDEST_GLIBC)
+
+
+def lintian_has_no_error(package):
+    """Debian's checks of a package have no error."""
+    if not shutil.which("lintian"):
+        leave_out("the checks of lintian", "it isn't installed")
+        return
+    words = ("lintian", "--allow-root", "--fail-on", "error", package)
+    report("lintian", subprocess.run(words, check=False).returncode == 0)
+
+
+def types_are_right(wheel, folder):
+    """The package has type hints by which the page's first program is right, and another one isn't."""
+    if not shutil.which("mypy"):
+        leave_out("the type hints of the Python package", "there is no mypy")
+        return
+    with zipfile.ZipFile(wheel) as archive:
+        archive.extractall(folder / "typed")
+    program, wrong = folder / "first.py", folder / "wrong.py"
+    program.write_text(FIRST_PYTHON)
+    wrong.write_text(FIRST_PYTHON.replace("amount_msat=1_000", 'amount_msat="1_000"'))
+    mypy = ("mypy", "--strict", "--cache-dir", folder / "cache")
+    environment = {**os.environ, "MYPYPATH": str(folder / "typed")}
+    typed = folder / "typed" / "lgm"
+    for what, file, status in (("the package", typed, 0), ("the page's program", program, 0), ("a wrong one", wrong, 1)):
+        ran = subprocess.run((*mypy, file), env=environment, stdout=subprocess.PIPE, stderr=subprocess.PIPE, check=False)
+        report(f"mypy, {what}", (ran if status else say_of(ran)).returncode == status)
+
+
+def try_wheel(root, wheel):
+    """The wheel is installed in a new environment, runs the page's program and the package's tests, and is removed."""
+    if not root.has("python3") or root.run("python3 -c 'import ensurepip'").returncode:
+        leave_out("the wheel in an environment of its own", "there is no python3-venv")
+        return
+    root.put(wheel, f"/tmp/{wheel.name}")
+    for name in BESIDE:
+        root.put(TOP / name, f"/tmp/beside/{name}")
+    say_of(root.run(("python3", "-m", "venv", "/tmp/venv")))
+    pip, python = ("/tmp/venv/bin/pip", "--disable-pip-version-check"), "/tmp/venv/bin/python"
+    report("pip install", say_of(root.run((*pip, "install", "--no-index", f"/tmp/{wheel.name}"))).returncode == 0)
+    ran = say_of(root.run((python, "-c", FIRST_PYTHON)))
+    report("the first program in Python", ran.stdout.decode() == SAID.splitlines(keepends=True)[-1])
+    for name in ("test_lgm.py", "test_dump.py"):
+        report(f"{name}, with the wheel", say_of(root.run((python, f"/tmp/beside/python/tests/{name}"))).returncode == 0)
+    report("pip uninstall", root.run((*pip, "uninstall", "--yes", "lgm")).returncode == 0)
+    report("the wheel removed", not any((root.folder / "tmp/venv").rglob("*lgm*")))
+
+
+def try_archive(root, archive):
+    """The archive's README is right wherever it is unpacked, and after it was moved."""
+    folder = archive.name.removesuffix(".tar.gz")
+    root.put(archive, f"/tmp/{archive.name}")
+    report("the archive unpacked", root.run(("tar", "-xzf", archive.name)).returncode == 0)
+    (root.folder / "tmp" / "moved").mkdir()
+    (root.folder / "tmp" / folder).rename(root.folder / "tmp" / "moved" / "lgm")
+    place = "/tmp/moved/lgm"
+    session = block("packaging/README", "bin/lgm run")
+    report("the session of the archive", say_of(root.run(session, place)).stdout == ANSWERS)
+    if not root.has("cc", "pkg-config"):
+        leave_out("programs in C with the archive", "there is no cc or no pkg-config")
+        return
+    (root.folder / place.lstrip("/") / "first.c").write_text(FIRST_C)
+    for first in ("export PKG_CONFIG_PATH", "cc first.c -Iinclude"):
+        line = block("packaging/README", first)
+        report(f"the archive's README, {first}", say_of(root.run(f"{line}\n./first", place)).stdout.decode() == SAID)
+
+
+def installed(root, package, with_apt):
+    """Installs the package for Debian, and says how long it and the first route took."""
+    root.put(package, f"/tmp/{package.name}")
+    begun = time.monotonic()
+    words = ("apt-get", "install", "-y", f"./{package.name}") if with_apt else ("dpkg", "--install", package.name)
+    report("the package installed", say_of(root.run(words)).returncode == 0)
+    command = next(line for line in block("README.md", "sudo apt install").splitlines() if line.startswith("lgm run"))
+    answers = say_of(root.run(command)).stdout
+    report("the session of the README", answers == ANSWERS)
+    print(f"the first route after {time.monotonic() - begun:.1f} s", flush=True)
+    if root.has("python3"):
+        ran = say_of(root.run(("python3", "examples/tools/client.py"), "/usr/share/doc/lgm"))
+        report("the client among the pages", b"route 10006500 700054 3\n" in ran.stdout)
+    report("lgm --version", root.run("lgm --version").stderr.decode().strip() == f"lgm {VERSION}")
+
+
+def manuals_are_right(root):
+    """`man` shows the pages without a warning, that of the library by each call's name."""
+    if not root.has("man"):
+        leave_out("the manual pages", "there is no man")
+        return
+    ran = root.run("man --warnings lgm")
+    options = re.findall(r"^\| `(--\w+) HEX`|^\| `(--\w+) N`", (TOP / "docs/script.md").read_text(), flags=re.MULTILINE)
+    shown = all("".join(option) in ran.stdout.decode() for option in options)
+    report("lgm(1)", ran.returncode == 0 and not ran.stderr and shown and len(options) == 3)
+    calls = set(re.findall(r"^\w+ (lgm_\w+)\(", (TOP / "include/lgm.h").read_text(), flags=re.MULTILINE))
+    ran = root.run("man --warnings lgm_route")
+    shown = set(re.findall(r"\b(lgm_\w+)\(", ran.stdout.decode()))
+    report("lgm(3)", ran.returncode == 0 and not ran.stderr and shown == calls)
+    report("a manual page of each call", all((root.folder / f"usr/share/man/man3/{name}.3.gz").exists() for name in calls))
+
+
+def completion_is_right(root):
+    """bash completes what docs/script.md has."""
+    if not root.has("bash"):
+        leave_out("completion in bash", "there is no bash")
+        return
+    def completed(*words):
+        line = f"COMP_WORDS=(lgm {' '.join(words)}); COMP_CWORD={len(words)}; _lgm; echo \"${{COMPREPLY[@]}}\""
+        source = ". /usr/share/bash-completion/completions/lgm"
+        return root.run(("bash", "-c", f"{source}; {line}")).stdout.decode().split()
+
+    options = set(re.findall(r"^\| `(--\w+) ", (TOP / "docs/script.md").read_text(), flags=re.MULTILINE))
+    report("completion", completed("r") == ["run"] and completed("l") == ["live"] and completed("run", "--chain", "''") == []
+           and {*completed("live", "--")} == {*options, "--help"})
+
+
+def try_program_in_c(root):
+    """The first program of docs/embedding.md is built and run as the page says."""
+    if not root.has("cc", "pkg-config"):
+        leave_out("the first program in C", "there is no cc or no pkg-config")
+        return
+    (root.folder / "tmp" / "first.c").write_text(FIRST_C)
+    report("the first program in C", say_of(root.run(BUILD.removeprefix("$ "))).stdout.decode() == SAID)
+
+
+def try_debian_package(root, package, with_apt):
+    """The package for Debian is installed, used and removed."""
+    before = root.files()
+    installed(root, package, with_apt)
+    symbols_are_old_enough(root, "/usr/bin/lgm", "/usr/lib/x86_64-linux-gnu/liblgm.so")
+    manuals_are_right(root)
+    completion_is_right(root)
+    try_program_in_c(root)
+    report("the package removed", say_of(root.run(("dpkg", "--purge", "lgm"))).returncode == 0)
+    left = root.files() - before
+    print(*sorted(left), sep="\n", end="\n" if left else "")
+    report("nothing left", not left)
+
+
+def try_crate(packages, folder):
+    """The crate is packed without the network. What was packed, and what is among the pages, answer over the archive."""
+    reads = ("cargo", "metadata", "--offline", "--no-deps", "--manifest-path", TOP / "examples/rust/Cargo.toml")
+    if not all(shutil.which(tool) for tool in ("cargo", "cc", "pkg-config")) or not succeeds(*reads):
+        leave_out("the crate as cargo packs it", "no cargo of its edition, cc and pkg-config run here")
+        return
+    tree, target = folder / "tree", folder / "cargo"
+    tree.mkdir()
+    subprocess.run(("tar", "-C", tree, "-xzf", packages / f"lgm-{VERSION}-x86_64-linux.tar.gz"), check=True)
+    top = tree / f"lgm-{VERSION}-x86_64-linux"
+    lib = top / "lib"
+    environment = {**os.environ, "CARGO_HOME": str(target / "home"), "CARGO_TARGET_DIR": str(target),
+                   "PKG_CONFIG_PATH": str(lib / "pkgconfig"), "LD_LIBRARY_PATH": str(lib)}
+    words = ("cargo", "package", "--quiet", "--offline", "--allow-dirty", "--no-verify")
+    ran = subprocess.run(words, cwd=TOP / "examples/rust", env=environment, check=False)
+    report("cargo package", ran.returncode == 0)
+    subprocess.run(("tar", "-C", target, "-xzf", target / "package" / f"lgm-{VERSION}.0.crate"), check=True)
+    words = ("cargo", "run", "--quiet", "--offline", "--example", "calls")
+    for name, place, settings in (("pkg-config", top / "share/doc/lgm/examples/rust", {}),
+                                  ("LGM_LIBRARY_DIR", target / f"lgm-{VERSION}.0", {"LGM_LIBRARY_DIR": str(lib)})):
+        ran = subprocess.run(words, cwd=place, env={**environment, **settings}, stdout=subprocess.PIPE, check=False)
+        report(f"the crate's calls, by {name}", ran.stdout == b"ok\n")
+
+
+def try_in_root(stage, packages, is_bare):
+    """Tries the packages in a root. The exit status."""
+    root = bare(stage) if is_bare else layered(stage)
+    if root is None:
+        leave_out("tests/packages.py", "no layers can be mounted here")
+        return SKIPPED
+    package = packages / f"lgm_{VERSION}_amd64.deb"
+    if is_bare:
+        installed(root, package, True)
+        root.run(("dpkg", "--purge", "lgm"))
+        say_of(root.run(("apt-get", "install", "-y", "--no-install-recommends", "gcc", "libc6-dev", "pkg-config", "python3-venv",
+                         "man-db")))
+    try_wheel(root, next(packages.glob("*.whl")))
+    try_archive(root, packages / f"lgm-{VERSION}-x86_64-linux.tar.gz")
+    try_debian_package(root, package, is_bare)
+    return 1 if failures else 0
+
+
+def main():
+    """Takes the arguments, makes the packages, and tries them: those of the root in another process, with mounts of its own."""
+    parser = argparse.ArgumentParser(description=__doc__, formatter_class=argparse.RawDescriptionHelpFormatter)
+    parser.add_argument("--debootstrap", action="store_true", help="in a bare Debian, which is fetched")
+    parser.add_argument("--inside", nargs=2, type=Path, metavar="FOLDER", help=argparse.SUPPRESS)
+    options = parser.parse_args()
+    if options.inside:
+        sys.exit(try_in_root(*options.inside, options.debootstrap))
+    missing = [tool for tool in ("dpkg-deb", "strip", "unshare", *(["debootstrap"] if options.debootstrap else []))
+               if not shutil.which(tool)]
+    before = with_own_mounts(options.debootstrap) if not missing else None
+    if not before:
+        leave_out("tests/packages.py", f"there is no {' and no '.join(missing)}" if missing else "no mounts are allowed here")
+        sys.exit(SKIPPED)
+    with tempfile.TemporaryDirectory() as name:
+        folder = Path(name)
+        folder.chmod(0o755)
+        packages = made_packages(folder)
+        versions_agree()
+        record_is_right(next(packages.glob("*.whl")))
+        lintian_has_no_error(packages / f"lgm_{VERSION}_amd64.deb")
+        types_are_right(next(packages.glob("*.whl")), folder)
+        try_crate(packages, folder)
+        stage = folder / "stage"
+        stage.mkdir()
+        words = (*before, "sh", "-c", 'mount -t tmpfs tmpfs "$0" && exec "$@"', stage)
+        own = (sys.executable, __file__, "--inside", stage, packages, *(["--debootstrap"] if options.debootstrap else []))
+        status = subprocess.run((*words, *own), check=False).returncode
+    sys.exit(1 if failures and status in (0, SKIPPED) else status)
+
+
+if __name__ == "__main__":
+    main()

@@ -1,0 +1,105 @@
+#!/usr/bin/env python3
+"""Tests which parts `./package` builds before it packs them. Files that are empty stand for the sources and for what is built.
+
+    python3 tests/test_package.py
+
+tests/packages.py tests what it packs.
+"""
+
+import os
+import sys
+import tempfile
+from importlib.machinery import SourceFileLoader
+from importlib.util import module_from_spec, spec_from_loader
+from pathlib import Path
+
+sys.dont_write_bytecode = True  # the repository gets no made files
+
+TOP = Path(__file__).resolve().parent.parent
+sys.path.insert(1, str(TOP))  # with build.py
+SOURCES = ("crates.txt", "include/lgm.h", "crates/low/src/lib.rt", "crates/lgm/src/main.rt", "crates/lgm_c/src/lib.rt")
+PROGRAM, ARCHIVE, SHARED = "crates/lgm/out/lgm", "examples/out/liblgm.a", "examples/out/liblgm.so.7"
+
+
+def loaded():
+    """`./package` as a module."""
+    loader = SourceFileLoader("package", str(TOP / "package"))
+    module = module_from_spec(spec_from_loader(loader.name, loader))
+    loader.exec_module(module)
+    return module
+
+
+class Place:
+    """A temporary repository, and what is built in it."""
+
+    def __init__(self, package, top):
+        self.package, self.top, self.built = package, top, []
+        package.TOP, package.build.TOP = top, top
+        package.PROGRAM, package.LIBRARIES = top / PROGRAM, top / "examples/out"
+        package.build_by = lambda *words: self.built.append(Path(words[-1]).name)
+        for file in SOURCES:
+            self.write(file, 100)
+        (top / "crates.txt").write_text("low:\nlgm: low\nlgm_c staticlib: low\n")
+        (top / "include/lgm.h").write_text("#define LGM_VERSION 7\n")
+        os.utime(top / "crates.txt", (100, 100))
+
+    def write(self, file, seconds):
+        """Writes an empty file with a time."""
+        place = self.top / file
+        place.parent.mkdir(parents=True, exist_ok=True)
+        place.touch()
+        os.utime(place, (seconds, seconds))
+
+    def builds(self):
+        """What is built now."""
+        self.built.clear()
+        self.package.build_what_is_stale()
+        return self.built
+
+
+def only_what_is_stale_is_built(place):
+    """What isn't there, and what is older than a source of its crate or of one below."""
+    assert place.builds() == ["build.py", "build-c"]
+    place.write(PROGRAM, 200)
+    assert place.builds() == ["build-c"]
+    place.write(ARCHIVE, 200)
+    assert place.builds() == ["build-c"]
+    place.write(SHARED, 200)
+    assert place.builds() == []
+    for source, wanted in (("crates/lgm/src/main.rt", ["build.py"]), ("crates/lgm_c/src/lib.rt", ["build-c"]),
+                           ("crates/low/src/lib.rt", ["build.py", "build-c"]), ("crates.txt", ["build.py", "build-c"])):
+        place.write(source, 300)
+        assert place.builds() == wanted, source
+        place.write(source, 100)
+    assert place.builds() == []
+
+
+def builds_for_any_processor(package):
+    """What is built is for any processor unless the environment says otherwise. Without `rt`, and after a failure, it ends."""
+    with tempfile.TemporaryDirectory() as folder:
+        rt, told = Path(folder, "rt"), Path(folder, "told")
+        os.environ["PATH"] = f"{folder}:/usr/bin:/bin"
+        os.environ.pop("LGM_CPU", None)
+        for words, status in ((("false",), "package: something has to be built, and rt, Rattle's toolchain, isn't on the PATH"),
+                              (("sh", "-c", f"echo $LGM_CPU > {told}"), None), (("false",), 1)):
+            try:
+                package.build_by(*words)
+                assert status is None
+            except SystemExit as ended:
+                assert ended.code == status, ended.code
+            rt.touch()
+            rt.chmod(0o755)
+        assert told.read_text() == "default\n"
+
+
+def main():
+    """Runs both."""
+    package = loaded()
+    builds_for_any_processor(package)
+    with tempfile.TemporaryDirectory() as folder:
+        only_what_is_stale_is_built(Place(package, Path(folder)))
+    print("2 passed")
+
+
+if __name__ == "__main__":
+    main()
