@@ -6,7 +6,7 @@
 bench/offers.c makes the calls: it offers all messages of the workload `routes`, asks for the news of a filter, sets the
 mark, and finds the routes of all payments; then, as for a restart, it lists all that the map has and offers that to another
 map. Times are CPU time, the minimum of all runs. The program also reads the script's digits and writes its answers. For
-Python, the times are that of a call of `offer` beyond the same call in C, and those of examples/python/dump.py. The library
+Python, the times are that of a call of `offer` beyond the same call in C, and those of `lgm.dump`. The library
 is built by examples/build-c if it isn't there.
 """
 
@@ -99,10 +99,10 @@ def measure_c(options, program, file):
 
 
 def measure_python(options, items, folder):
-    """The minimum times of all offers through examples/python/lgm.py, and of dump.py's `dump` and `load`."""
+    """The minimum times of all offers through the Python package, and of `dump` and `load` of its lgm.dump."""
     os.environ["LGM_LIBRARY"] = str(options.library / "liblgm.so")
-    import dump
     import lgm
+    from lgm import dump
     names = {number: name for name, number in SIGS.items()}
     arguments = [
         (message, names[sig] if sig in names else signer, sat if funding == UNSPENT else lgm.NOT_ASKED)

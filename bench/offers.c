@@ -125,7 +125,7 @@ static void push(records *out, size_t len, uint32_t sig, const uint8_t *signer, 
     out->count++;
 }
 
-/* Lists the channels of a map with their messages, its nodes, and its bans, as examples/python/dump.py does. */
+/* Lists the channels of a map with their messages, its nodes, and its bans, as lgm.dump of the Python package does. */
 static void list_all(lgm_map *map, records *out) {
     uint64_t scid;
     uint8_t point[33];

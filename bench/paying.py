@@ -31,7 +31,6 @@ import plot
 from top import TOP
 
 import lgm
-import lgm_library
 from gossip.messages import CHAIN
 from gossip.networks import Network
 from gossip.workloads import HEIGHT, sync
@@ -243,7 +242,7 @@ def picture(options, taken):
 def main():
     """Prints the table, and draws the picture."""
     options = words()
-    lgm_library.LIBRARY = options.library.resolve()
+    lgm.library.LIBRARY = options.library.resolve()
     world, taken = drawn(options), {}
     print(f"| amount | arrived | {' | '.join(way.name for way in WAYS)} |")
     print(f"|---|---|{'---|' * len(WAYS)}")

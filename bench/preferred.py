@@ -4,8 +4,8 @@
     python3 bench/preferred.py
 
 On a synthetic network of 45,000 channels the same payments between random nodes are asked for plainly, by preferences, and by
-preferences with 20,000 estimates, one after the other in turns, so that all meet the same hour of the machine; without a limit
-of the delay and within one. Times are CPU time of a call of `Map.route`, of which the Python module takes some ten
+preferences with 20,000 estimates, in turns of all payments of an amount, so that all meet the same hour of the machine; without
+a limit of the delay and within one. Times are CPU time of a call of `Map.route`, of which the Python module takes some ten
 microseconds; of several runs the least of each payment counts. Then come the hostile networks of gossip/hostile.py, by the
 library's own budget. The library is built by examples/build-c.
 """
@@ -22,7 +22,6 @@ sys.dont_write_bytecode = True  # the repository gets no made files
 from top import TOP
 
 import lgm
-import lgm_library
 from gossip.hostile import AMOUNT, PAYER, Hostile, messages
 from gossip.messages import CHAIN
 from gossip.networks import Network
@@ -91,12 +90,13 @@ def answered(network, payment, **asked):
 
 
 def in_turns(network, payments, askings, most_delay, runs):
-    """The answers to all payments by each way of asking, of which the least time of several runs counts."""
+    """The answers to all payments by each way of asking, of which the least time of several runs counts. A way has all payments
+    before the next one has its turn, as a payer asks: so each finds its own data in the processor's caches."""
     best = {asking.name: {} for asking in askings}
     for run in range(runs):
-        for place, payment in enumerate(payments):
-            turn = (place + run) % len(askings)
-            for name, liked in (*askings[turn:], *askings[:turn]):
+        turn = run % len(askings)
+        for name, liked in (*askings[turn:], *askings[:turn]):
+            for place, payment in enumerate(payments):
                 answer = answered(network, payment, most_delay=most_delay, **liked)
                 best[name][place] = min(answer, best[name].get(place, answer))
     return {name: list(answers.values()) for name, answers in best.items()}
@@ -146,7 +146,7 @@ def hostile_lines(options):
 def main():
     """Prints the tables."""
     options = words()
-    lgm_library.LIBRARY = options.library.resolve()
+    lgm.library.LIBRARY = options.library.resolve()
     print_payments(options, Network(options.channels, options.seed), random.Random(options.seed))
     print(f"{'hostile networks':<72}{'ms':>9}  answer")
     for found in hostile_lines(options):

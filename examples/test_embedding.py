@@ -20,7 +20,7 @@ from pathlib import Path
 
 HERE = Path(__file__).resolve().parent
 TOP = HERE.parent
-sys.path.insert(1, str(HERE / "python"))
+sys.path.insert(1, str(TOP / "python"))
 
 PROGRAM = sys.argv[1] if len(sys.argv) > 1 else TOP / "lgm"
 CHAIN = "c1" * 32
@@ -222,7 +222,7 @@ def test_serve(out):
 
 
 def test_python():
-    """The module answers as `lgm` does: each item, each payment and each query of a synthetic network."""
+    """The package answers as `lgm` does: each item, each payment and each query of a synthetic network."""
     import lgm
 
     def bytes_in(line):
@@ -247,25 +247,25 @@ def test_python():
 
     words = {number: ctypes.create_string_buffer(24) for number in range(1, 108)}
     for number, word in words.items():
-        lgm._load().lgm_word(number, word)
+        lgm.library.load().lgm_word(number, word)
     words = {number: word.value.decode() for number, word in words.items() if word.value}
-    report("lgm.py, words", words == {27: "so-far", **{number: kind.word for number, kind in lgm._FAULTS.items()}})
+    report("Python, words", words == {27: "so-far", **{number: kind.word for number, kind in lgm.faults.FAULTS.items()}})
     for workload in ("routes", "queries"):
         script = made_script(workload)
         with lgm.Map(bytes.fromhex(CHAIN)) as network:
             lines = [line for line in script.splitlines() if line != b"commit"]
             found = [text for line in lines for text in answers(network, line)]
         wanted = [line.split(maxsplit=1)[1].decode() for line in answer(script).splitlines()]
-        report(f"lgm.py, {workload}", found == [text for text in wanted if not text.startswith("commit")])
+        report(f"Python, {workload}", found == [text for text in wanted if not text.startswith("commit")])
     try:
         network.mark()
-        report("lgm.py, closed", False)
+        report("Python, closed", False)
     except lgm.Closed as fault:
-        report("lgm.py, closed", str(fault) == "closed")
+        report("Python, closed", str(fault) == "closed")
 
 
 def announced(items):
-    """The channels and nodes that messages announce, at the offsets of BOLT 7: what the module has to find."""
+    """The channels and nodes that messages announce, at the offsets of BOLT 7: what the package has to find."""
     channels, nodes = {}, {}
     for message, _, funding in items:
         kind, features = message[:2], int.from_bytes(message[66:68], "big")
@@ -282,7 +282,7 @@ def announced(items):
 
 
 def test_lookups():
-    """The module has the channels, terms and nodes that the messages of a synthetic network announce."""
+    """The package has the channels, terms and nodes that the messages of a synthetic network announce."""
     import lgm
 
     def terms(direction):
@@ -300,24 +300,24 @@ def test_lookups():
             keys.append((network.wanted(message), None if sig == "all" else bytes.fromhex(sig)))
             network.offer(
                 message, sig if sig == "all" else bytes.fromhex(sig), int(funding) if funding.isdigit() else funding)
-        report("lgm.py, keys to verify", len(keys) > CHANNELS and all(found == wanted for found, wanted in keys))
-        report("lgm.py, nothing is wanted twice", not any(is_wanted(network, message, lgm) for message, _, _ in items))
+        report("Python, keys to verify", len(keys) > CHANNELS and all(found == wanted for found, wanted in keys))
+        report("Python, nothing is wanted twice", not any(is_wanted(network, message, lgm) for message, _, _ in items))
         found = {scid: network.channel(scid) for scid in channels}
         found = {scid: [channel.capacity_sat, channel.node_1, channel.node_2, terms(channel.from_1),
                         terms(channel.from_2)] for scid, channel in found.items()}
-        report("lgm.py, channels", len(network) == len(channels) == CHANNELS and found == channels)
+        report("Python, channels", len(network) == len(channels) == CHANNELS and found == channels)
         found = {point: network.node(point) for point in nodes}
         found = {point: (node.timestamp, node.rgb, node.alias, node.addresses) for point, node in found.items()}
-        report("lgm.py, nodes", len(nodes) > 0 and found == nodes)
+        report("Python, nodes", len(nodes) > 0 and found == nodes)
         listed = list(network.channels()) == sorted(channels) and list(network.nodes()) == sorted(nodes)
-        report("lgm.py, lists", listed and list(network.banned()) == [])
-        report("lgm.py, copy", copied(network, lgm) == (sorted(channels), sorted(nodes), sorted(stored(network, lgm))))
+        report("Python, lists", listed and list(network.banned()) == [])
+        report("Python, copy", copied(network, lgm) == (sorted(channels), sorted(nodes), sorted(stored(network, lgm))))
         worst = max(channels, key=lambda scid: channels[scid][1])
         banned = channels[worst][1:3]
         for point in banned:
             network.ban(point)
         left = sorted(scid for scid, channel in channels.items() if not {*banned} & {*channel[1:3]})
-        report("lgm.py, bans", list(network.banned()) == sorted(banned) and list(network.channels()) == left)
+        report("Python, bans", list(network.banned()) == sorted(banned) and list(network.channels()) == left)
 
 
 def is_wanted(network, message, lgm):
@@ -386,7 +386,7 @@ def test_threads():
         for thread in threads:
             thread.join()
         right = len(ended) == 6 and len(shared) == len(alone) == CHANNELS
-        report("lgm.py, three threads", right and shared.route(*payment) == alone.route(*payment))
+        report("Python, three threads", right and shared.route(*payment) == alone.route(*payment))
 
 
 def test_published():
@@ -433,11 +433,11 @@ def test_published():
     wanted = {published.version: (routes(published), len(published)) for published in kept}
     right = all((found, count) == wanted[version] for version, found, count in seen)
     versions = [0, *range(500, len(items), 500), len(items)]
-    report("lgm.py, published maps", right and list(wanted) == versions and kept[-1].version == len(items))
+    report("Python, published maps", right and list(wanted) == versions and kept[-1].version == len(items))
     everything = b"\1\t" + bytes.fromhex(CHAIN) + bytes(4) + b"\xff" * 4
     known = {message for message in kept[1].filter(everything)}
     news = [message for message in kept[-1].filter(everything) if message not in known]
-    report("lgm.py, news between maps", len(news) > 0 and kept[-1].news_since(kept[1], everything) == news)
+    report("Python, news between maps", len(news) > 0 and kept[-1].news_since(kept[1], everything) == news)
     for published in kept:
         published.close()
 
@@ -495,13 +495,13 @@ def test_overlays():
         wanted = [routed(network, payment, lgm) for payment in asked]
         found = [routed(network, payment, lgm, silent=[payment[0]], edges=[e for e in edges if e.start == payment[0]])
                  for payment in asked]
-        report("lgm.py, own channels", found == wanted and any(isinstance(route, lgm.Route) for route in wanted))
+        report("Python, own channels", found == wanted and any(isinstance(route, lgm.Route) for route in wanted))
         payees = {payment[1] for payment in asked}
         hints = [edge for edge in edges if {edge.start, edge.end} & payees]
         for scid in {edge.scid for edge in hints}:
             less.close_channel(scid)
         alone = [routed(less, payment, lgm) for payment in asked]
-        report("lgm.py, hints", set(alone) == {"no-route"} and over(less) == wanted)
+        report("Python, hints", set(alone) == {"no-route"} and over(less) == wanted)
         seen = []
         with less.publish() as published:
             threads = [threading.Thread(target=read) for _ in range(4)]
@@ -509,10 +509,10 @@ def test_overlays():
                 thread.start()
             for thread in threads:
                 thread.join()
-        report("lgm.py, hints in four threads", seen == 4 * [wanted])
+        report("Python, hints in four threads", seen == 4 * [wanted])
         right = all(quicker_is_right(network, payment, route, lgm)
                     for payment, route in zip(asked, wanted) if isinstance(route, lgm.Route))
-        report("lgm.py, delays", right)
+        report("Python, delays", right)
 
 
 def wide_edges(sides, stages, lgm):
@@ -548,7 +548,7 @@ def test_so_far():
     right = all(not so_far.is_best and 1_010_000 <= so_far.sent_msat <= 1_010_255 and so_far.expiry <= 701_008
                 and within == any_delay and within.sent_msat == 10_000 and within.expiry == 701_455
                 for so_far, within, any_delay in found)
-    report("lgm.py, a route so far", right and (dear.sent_msat, dear.expiry) == (1_010_000, 700_255))
+    report("Python, a route so far", right and (dear.sent_msat, dear.expiry) == (1_010_000, 700_255))
 
 
 def test_one_class():
@@ -573,7 +573,7 @@ def test_one_class():
         with published.share() as shared:
             published.close()
             right &= raised(published.query, message) is lgm.Closed and shared.version == 0
-    report("lgm.py, one class", right)
+    report("Python, one class", right)
 
 
 def test_recipes(out):
@@ -584,8 +584,8 @@ def test_recipes(out):
 
 def test_dump():
     """What a map has is written to a file and loaded again, and damaged files are told."""
-    words = [sys.executable, HERE / "python" / "test_dump.py"]
-    report("dump.py", subprocess.run(words, check=False).returncode == 0)
+    words = [sys.executable, TOP / "python" / "tests" / "test_dump.py"]
+    report("lgm.dump", subprocess.run(words, check=False).returncode == 0)
 
 
 def test_electrum():
@@ -594,6 +594,13 @@ def test_electrum():
     status = subprocess.run(words, check=False).returncode
     if status != 77:
         report("electrum", status == 0)
+
+
+def test_packages():
+    """What the packages are made of, installed where neither the kit nor the repository is; it says so where it is left out."""
+    status = subprocess.run([sys.executable, TOP / "tests" / "packages.py"], check=False).returncode
+    if status != 77:
+        report("packages", status == 0)
 
 
 def test_routes(out):
@@ -617,7 +624,7 @@ def main():
     with tempfile.TemporaryDirectory() as folder:
         out, prefix = Path(folder), Path(folder, "prefix")
         subprocess.run([HERE / "build-c", "--prefix", prefix, out], check=True)
-        os.environ["LGM_LIBRARY"] = str(out / "liblgm.so")
+        os.environ.update(LGM_LIBRARY=str(out / "liblgm.so"), PYTHONPATH=str(TOP / "python"))
         sys.dont_write_bytecode = True
         test_exports(out)
         test_calls(out)
@@ -638,6 +645,7 @@ def main():
         test_dump()
         test_electrum()
         test_routes(out)
+        test_packages()
     return 0 if failures == 0 else 1
 
 

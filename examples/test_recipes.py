@@ -15,31 +15,24 @@ from types import SimpleNamespace
 
 sys.dont_write_bytecode = True  # the repository gets no made files
 
+from blocks import block
 from test_embedding import CHAIN, CHANNELS, HERE, TOP, announced, is_wanted, made_script, output, stored
 
-import lgm  # of examples/python, where test_embedding.py leads to
+import lgm  # of python, where test_embedding.py leads to
 
 CHAIN = bytes.fromhex(CHAIN)
 DAY = 86_400
 
 
-def block(first, name="embedding"):
-    """The block of a page whose first line this is, without its indentation."""
-    page = (TOP / "docs" / f"{name}.md").read_text()
-    lines = page[page.index(f"    {first}\n"):].splitlines()
-    ends = (place for place, line in enumerate(lines) if line and not line.startswith("    "))
-    return "".join(line[4:] + "\n" for line in lines[:next(ends)]).rstrip("\n") + "\n"
-
-
 def first_programs(out):
     """The first programs of docs/embedding.md do what it says."""
-    (out / "first.c").write_text(block("#include <lgm.h>"))
+    (out / "first.c").write_text(block("docs/embedding.md", "#include <lgm.h>"))
     words = ["cc", "-std=c11", "-Wall", "-Wextra", "-Werror", "-I", TOP / "include", out / "first.c", out / "liblgm.a"]
     subprocess.run([*words, "-o", out / "first"], check=True)
-    said = block("$ cc first.c $(pkg-config --cflags --libs lgm) -o first && ./first").split("\n", 1)[1]
+    said = block("docs/embedding.md", "$ cc first.c $(pkg-config --cflags --libs lgm) -o first && ./first").split("\n", 1)[1]
     assert output([out / "first"]) == said.encode()
-    environment = {**os.environ, "PYTHONPATH": str(HERE / "python"), "PYTHONDONTWRITEBYTECODE": "1"}
-    words = [sys.executable, "-c", block("from lgm import ALL_FOUR, Map")]
+    environment = {**os.environ, "PYTHONPATH": str(TOP / "python"), "PYTHONDONTWRITEBYTECODE": "1"}
+    words = [sys.executable, "-c", block("docs/embedding.md", "from lgm import ALL_FOUR, Map")]
     ran = subprocess.run(words, env=environment, stdout=subprocess.PIPE, check=False)
     assert ran.stdout == said.encode().splitlines(keepends=True)[-1]
 
@@ -73,8 +66,7 @@ def an_invoice_is_paid():
     with lgm.Map(CHAIN) as names["network"], lgm.Estimates() as names["estimates"]:
         for item in items_of((HERE / "payments.txt").read_text()):
             names["network"].offer(*item)
-        exec(block("own = [Edge(c.scid, payer, c.peer, htlc_maximum_msat=c.can_send) for c in channels if c.is_connected]",
-                   "operating"), names)
+        exec(block("docs/operating.md", "own = [Edge(c.scid, payer, c.peer, htlc_maximum_msat=c.can_send)"), names)
         learnt = {scid >> 40: (known.least_msat, known.most_msat) for scid, _, known in names["estimates"]}
     # What the first try sent over its hop failed; the second one's public hops carried theirs. Nothing is learnt of the others.
     assert learnt == {600_003: (0, 10_000_699), 600_001: (10_004_200, 2**64 - 1), 600_002: (10_000_700, 2**64 - 1)}
@@ -104,7 +96,7 @@ def lacking(peer, items, pruned):
 def synchronize(own, peer, pruned, options):
     """Asks a peer for what it has of all blocks, with these options. The ids that were worth it."""
     names, found = {"lgm": lgm, "struct": struct}, []
-    exec(block("def worth_asking(network, reply, pruned):", "operating"), names)
+    exec(block("docs/operating.md", "def worth_asking(network, reply, pruned):"), names)
     for reply in peer.query(b"\1\7" + CHAIN + bytes(4) + b"\xff" * 4 + options):
         ids = list(names["worth_asking"](own, reply, pruned))
         encoded = b"\0" + b"".join(scid.to_bytes(8, "big") for scid in ids)
@@ -149,7 +141,7 @@ def old_channels_are_pruned():
         for item in items:
             network.offer(*item)
         names = {"network": network, "pruned": {}, "time": SimpleNamespace(time=lambda: newest + 7 * DAY)}
-        exec(block("old = time.time() - 14 * 86_400", "operating"), names)
+        exec(block("docs/operating.md", "old = time.time() - 14 * 86_400"), names)
         assert names["pruned"] == old and 0 < len(old) < CHANNELS
         assert list(network.channels()) == sorted(channels.keys() - old.keys())
 

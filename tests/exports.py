@@ -8,6 +8,7 @@ LIBRARY is `liblgm.so`. Compared are
 - the functions that the header declares, that the library exports (`nm`), and that the sources define, with the types of
   their parameters and results;
 - the structs: their fields, in order, with types; and their sizes and offsets as the C compiler lays them out;
+- the functions that the Python package declares, and that the Rust crate calls;
 - the numbers of faults and verdicts, that of a route that may not be the best one, the version, the size of a word, and the
   limits of a search.
 
@@ -23,14 +24,18 @@ from pathlib import Path
 TOP = Path(__file__).resolve().parent.parent
 HEADER = TOP / "include" / "lgm.h"
 SOURCES = TOP / "crates" / "lgm_c" / "src"
+PYTHON = TOP / "python" / "lgm" / "library.py"
+RUST = TOP / "examples" / "rust" / "src"
 # The names of structs in C, and of types in C and in ctypes.
 STRUCTS = {"LgmMap": "lgm_map", "LgmPayment": "lgm_payment", "LgmHop": "lgm_hop", "LgmLengths": "lgm_lengths",
            "LgmEstimates": "lgm_estimates", "LgmEstimate": "lgm_estimate_info",
            "LgmEdge": "lgm_edge", "LgmLimit": "lgm_limit", "LgmPoint": "lgm_point", "LgmSearch": "lgm_search",
-           "LgmDirection": "lgm_direction", "LgmChannel": "lgm_channel_info", "LgmNode": "lgm_node_info"}
+           "LgmRecord": "lgm_record", "LgmArrival": "lgm_arrival", "LgmDirection": "lgm_direction", "LgmChannel": "lgm_channel_info", "LgmNode": "lgm_node_info"}
 TYPES = {"bool": ("bool", ctypes.c_bool), "u8": ("uint8_t", ctypes.c_uint8), "u16": ("uint16_t", ctypes.c_uint16),
          "u32": ("uint32_t", ctypes.c_uint32), "u64": ("uint64_t", ctypes.c_uint64), "usize": ("size_t", ctypes.c_size_t),
          "*mut u8": ("void *", ctypes.c_void_p)}
+# A field whose name is a keyword of Rattle's.
+FIELDS = {"kind": "type"}
 # Faults of the sources that no call returns, so that the header has no name for them.
 UNNAMED = {"LGM_CONFLICT"}
 # Constants of the header that the protocol sets, and no number of the sources of this crate.
@@ -73,6 +78,9 @@ def header_functions(text):
 
 def c_type(kind):
     """A type of the sources, as a value in C."""
+    kind = re.sub(r"<'\w+>", "", kind)
+    if found := re.fullmatch(r"&'a \[(.+)\]", kind):
+        return f"const {c_type(found[1])} *"
     if found := re.fullmatch(r"\[(.+); (\d+)\]", kind):
         return f"{c_type(found[1])} [{found[2]}]"
     return STRUCTS.get(kind) or TYPES[kind][0]
@@ -104,12 +112,18 @@ def source_functions(text):
 
 def source_structs(text):
     """The fields of each `repr(C)` struct, with the types of the sources; a pointer's field is one of its handle."""
-    pattern = r"#\[repr\(C\)\]\s*#\[derive\([^)]*\)\]\s*pub struct (\w+) \{(.*?)\n\}"
+    pattern = r"#\[repr\(C\)\]\s*#\[derive\([^)]*\)\]\s*pub struct (\w+)(?:<'a>)? \{(.*?)\n\}"
     field = r"^\s*(?:pub(?:\(crate\))? )?(\w+): (.+),$"
     structs = {name: re.findall(field, re.sub(r"^\s*(?:ghost|///).*$", "", fields, flags=re.MULTILINE), flags=re.MULTILINE)
                for name, fields in re.findall(pattern, text, flags=re.DOTALL)}
     inside = {pointer: structs.pop(pointer) for pointer in ("Handle", "EstimatesHandle")}
-    return {name: [one for entry in fields for one in inside.get(entry[1], [entry])] for name, fields in structs.items()}
+    return {name: [one for entry in fields for one in inside.get(entry[1], with_length(*entry))]
+            for name, fields in structs.items()}
+
+
+def with_length(field, kind):
+    """A field of the sources as those of C: a slice is a pointer and a length."""
+    return [(FIELDS.get(field, field), kind), *([(f"{field}_len", "usize")] if kind.startswith("&") else [])]
 
 
 def source_constants(text):
@@ -137,6 +151,8 @@ def ctypes_struct(structs, name):
     def kind_of(kind):
         if found := re.fullmatch(r"\[(.+); (\d+)\]", kind):
             return kind_of(found[1]) * int(found[2])
+        if kind.startswith("&"):
+            return ctypes.c_void_p
         return ctypes_struct(structs, kind) if kind in structs else TYPES[kind][1]
 
     fields = [(field, kind_of(kind)) for field, kind in structs[name]]
@@ -191,9 +207,19 @@ def source_text():
     return "\n".join(path.read_text() for path in sorted(SOURCES.glob("*.rt")))
 
 
+def unwrapped(header):
+    """What the Python package or the Rust crate has no call of, and what the header doesn't declare."""
+    functions = dict.fromkeys(header_functions(header_text(header)[0]), "there")
+    python = re.findall(r'^    "(lgm_\w+)": ', PYTHON.read_text(), flags=re.MULTILINE)
+    rust = re.findall(r"raw::(lgm_\w+)", " ".join(file.read_text() for file in sorted(RUST.glob("*.rs"))))
+    return [*differing("function", functions, dict.fromkeys(python, "there"), "the Python package"),
+            *differing("function", functions, dict.fromkeys(rust, "there"), "the Rust crate")]
+
+
 def main():
     """Prints what differs."""
-    found = differences(HEADER.read_text(), source_text(), exports(sys.argv[1]))
+    header = HEADER.read_text()
+    found = differences(header, source_text(), exports(sys.argv[1])) + unwrapped(header)
     if layout_differs(source_text()):
         found.append("the layout of a struct: see above")
     print(*found, f"{len(found)} differences between lgm.h and the library", sep="\n")

@@ -27,8 +27,8 @@ PAGES = sorted([*TOP.glob("*.md"), *TOP.glob("docs/*.md"), *TOP.glob("bench/*.md
                 *TOP.glob("examples/*/*.md")])
 SOURCES = ("crates/*/src/**/*.rt", "crates/*/specs/**/*.antt", "crates/*/proofs/**/*.antt", "include/*.h",
            "crates/*/must-fail/*.edit", "crates/*/args", "examples/**/*.py", "examples/c/*.c", "examples/rust/**/*.rs",
-           "examples/build-c", "bench/*.py", "gossip/*.py", "tests/**/*.py", "*.py",
-           "crates.txt", "lgm", "test", ".ci/run")
+           "examples/build-c", "bench/*.py", "gossip/*.py", "tests/**/*.py", "*.py", "python/**/*.py",
+           "packaging/*", "crates.txt", "lgm", "test", "package", ".ci/run")
 COMMANDS = ("rt", "lgm", "./lgm", "./test", "python3", "git", "cd", "awk", "bitcoin-cli")
 # Names that aren't this repository's: the kit's, clap's, the C library's, the protocol's, placeholders.
 OUTSIDE = set("""

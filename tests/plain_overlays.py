@@ -26,10 +26,9 @@ from typing import NamedTuple
 sys.dont_write_bytecode = True  # the repository gets no made files
 
 TOP = Path(__file__).resolve().parent.parent
-sys.path[1:1] = [str(TOP), str(TOP / "examples" / "python")]
+sys.path[1:1] = [str(TOP), str(TOP / "python")]
 
 import lgm
-import lgm_library
 from gossip.messages import CHAIN, DISABLED, HAS_MAXIMUM, ChannelAnnouncement, ChannelUpdate, NodeAnnouncement
 from gossip.notation import SECRET, TERMS
 from plain_walks import EXPIRY, Payment, Road, Step, Terms, best, delay, pair, usable
@@ -277,11 +276,11 @@ def rarities(seen, networks):
 def main():
     """Takes the arguments, and compares all networks."""
     parser = argparse.ArgumentParser(description=__doc__, formatter_class=argparse.RawDescriptionHelpFormatter)
-    parser.add_argument("library", nargs="?", default=lgm_library.LIBRARY, metavar="LIBRARY")
+    parser.add_argument("library", nargs="?", default=lgm.library.LIBRARY, metavar="LIBRARY")
     parser.add_argument("--networks", type=int, default=500, metavar="N", help="so many")
     parser.add_argument("--seed", type=int, default=1, metavar="N", help="other random ones")
     given = parser.parse_args()
-    lgm_library.LIBRARY = Path(given.library).resolve()
+    lgm.library.LIBRARY = Path(given.library).resolve()
     numbers, seen, failed = random.Random(given.seed), Counter(), 0
     for count in range(given.networks):
         wrong = objections(numbers, seen)

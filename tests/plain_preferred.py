@@ -25,10 +25,9 @@ from typing import NamedTuple
 sys.dont_write_bytecode = True  # the repository gets no made files
 
 TOP = Path(__file__).resolve().parent.parent
-sys.path[1:1] = [str(TOP), str(TOP / "examples" / "python")]
+sys.path[1:1] = [str(TOP), str(TOP / "python")]
 
 import lgm
-import lgm_library
 import preferred_cases
 from gossip.notation import SECRET
 from plain_overlays import (
@@ -246,11 +245,11 @@ def rarities(seen, networks):
 def main():
     """Takes the arguments, and runs all cases and networks."""
     parser = argparse.ArgumentParser(description=__doc__, formatter_class=argparse.RawDescriptionHelpFormatter)
-    parser.add_argument("library", nargs="?", default=lgm_library.LIBRARY, metavar="LIBRARY")
+    parser.add_argument("library", nargs="?", default=lgm.library.LIBRARY, metavar="LIBRARY")
     parser.add_argument("--networks", type=int, default=1_000, metavar="N", help="so many")
     parser.add_argument("--seed", type=int, default=1, metavar="N", help="other random ones")
     given = parser.parse_args()
-    lgm_library.LIBRARY = Path(given.library).resolve()
+    lgm.library.LIBRARY = Path(given.library).resolve()
     passed, failed = preferred_cases.run()
     numbers, seen = random.Random(given.seed), Counter()
     for count in range(given.networks):

@@ -1,5 +1,5 @@
 #!/usr/bin/env python3
-"""Runs the tests that aren't of a crate and want no library for C: of the pages, the build script, `./test`, the
+"""Runs the tests that aren't of a crate and want no library for C: of the pages, the build script, `./package`, `./test`, the
 comparison of the header, the Python package, the examples, the scripts of tests/scripts with their answers, the program
 beside Electrum, where calls fail, also in tests of crates, and where it runs for long.
 
@@ -9,14 +9,15 @@ PROGRAM is ./lgm if left out, which is built first where it is stale. It takes s
 with status 77 has said what it misses, and counts neither as passed nor as failed.
 """
 
+import os
 import subprocess
 import sys
 from pathlib import Path
 
 TOP = Path(__file__).resolve().parent.parent
-ALONE = ("tests/pages.py", "tests/test_build.py", "tests/test_all.py", "tests/test_exports.py", "tests/test_texts.py",
-         "gossip/test_messages.py", "gossip/test_notation.py", "tests/memory.py", "examples/python/test_lgm.py",
-         "examples/network/test_plots.py")
+ALONE = ("tests/pages.py", "tests/test_build.py", "tests/test_package.py", "tests/test_all.py", "tests/test_exports.py",
+         "tests/test_texts.py", "gossip/test_messages.py", "gossip/test_notation.py", "tests/memory.py",
+         "python/tests/test_lgm.py", "examples/network/test_plots.py")
 WITH_PROGRAM = ("examples/tools/test_why.py", "examples/tools/test_client.py", "examples/network/test_network.py",
                 "examples/electrum/test_wallet_database.py", "examples/test_examples.py", "examples/tools/test_why_route.py",
                 "examples/tools/test_shorten.py", "bench/test_route_picture.py", "tests/texts.py",
@@ -24,12 +25,13 @@ WITH_PROGRAM = ("examples/tools/test_why.py", "examples/tools/test_client.py", "
 # Over the program itself, since a shell in front of it would be refused calls too, and watched in place of it.
 BUILT = ("tests/refusals.py", "tests/soak.py")
 LEFT_OUT = 77
+ENVIRONMENT = {**os.environ, "PYTHONPATH": str(TOP / "python")}
 
 
 def ended(*words):
     """The exit status of a file of tests, which reports its own failures."""
     print(f"== {words[0]}", flush=True)
-    return subprocess.run([sys.executable, *words], cwd=TOP, check=False).returncode
+    return subprocess.run([sys.executable, *words], cwd=TOP, env=ENVIRONMENT, check=False).returncode
 
 
 def main():

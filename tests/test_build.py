@@ -31,6 +31,7 @@ case $crate in left|right) [ -f ../low/out/rlib/stamp ] || exit 4 ;; esac
 case $crate in left|right) sleep "${PAUSE:-0.1}" ;; esac
 mkdir -p out/rlib out/incremental
 echo "$*" > out/rlib/stamp
+[ "$1" = lib ] && touch "out/lib$crate.a"
 [ "$1" = run ] && { echo "$*" > "$LOG.run"; printf '#!/bin/sh\\necho "$@"\\n' > out/lgm; chmod +x out/lgm; }
 echo "end $crate" >> "$LOG"
 """
@@ -146,8 +147,17 @@ def builds_a_library(place):
     assert done.returncode == 0 and log == [f"{verb} {it}" for it in ("left", "other_tests") for verb in ("begin", "end")], log
     for line in ("2 of 3 crates", "lgm: left ..", "1 of 2", "lgm: other_tests ..", "2 of 2", "built in "):
         assert line in done.stderr, (line, done.stderr)
-    done, _ = place.run("./build.py", "--library", "other_tests", LGM_CPU="x86-64-v3")
-    assert done.returncode == 0 and "lgm: other_tests, for x86-64-v3 processors .." in done.stderr, done
+    done, log = place.run("./build.py", "--library", "other_tests")
+    assert (done.returncode, done.stderr, log) == (0, "lgm: other_tests is built already\n", []), (done, log)
+    for cpu in ("x86-64-v3", "default"):
+        done, log = place.run("./build.py", "--library", "other_tests", LGM_CPU=cpu)
+        assert done.returncode == 0 and log == ["begin other_tests", "end other_tests"], (done, log)
+        assert ("lgm: other_tests, for x86-64-v3 processors .." in done.stderr) == (cpu == "x86-64-v3"), done
+    time.sleep(0.02)
+    (place.top / "crates/other_tests/out/libother_tests.a").touch()  # as another build leaves it
+    done, log = place.run("./build.py", "--library", "other_tests")
+    assert done.returncode == 0 and log == ["begin other_tests", "end other_tests"], (done, log)
+    place.touch("other_tests")
     done, log = place.run("./build.py", "--library", "other_tests", BROKEN="other_tests")
     assert done.returncode == 1 and "a clause isn't proved\nlgm: other_tests couldn't be built\n" in done.stderr, done
     done, log = place.run("./build.py", "--library", "no_such")

@@ -8,7 +8,7 @@ import sys
 
 sys.dont_write_bytecode = True
 
-from exports import HEADER, differences, header_functions, header_text, source_text  # noqa: E402
+from exports import HEADER, differences, header_functions, header_text, source_text, unwrapped  # noqa: E402
 
 # A text of the header, what is put in its place, and how the line begins that tells it.
 CHANGES = (
@@ -26,6 +26,9 @@ CHANGES = (
     ("lgm_route(lgm_map *map, const lgm_payment *payment", "lgm_route(lgm_map *map, lgm_payment *payment",
      "function lgm_route: "),
     ("const lgm_point *silent, size_t silent_len", "const lgm_limit *silent, size_t silent_len", "function lgm_route_over: "),
+    ("const lgm_arrival *arrival, lgm_hop *hops", "const lgm_arrival *arrival, const lgm_hop *hops", "function lgm_payloads: "),
+    ("    const lgm_record *records;", "    lgm_record *records;", "struct lgm_arrival: "),
+    ("    const uint8_t *value;\n    size_t value_len;", "    size_t value_len;\n    const uint8_t *value;", "struct lgm_record: "),
     ("#define LGM_MOST_LABELS 1000000", "#define LGM_MOST_LABELS 2000000", "constant LGM_MOST_LABELS: 2000000"),
     ("#define LGM_MOST_STEPS 5000000", "#define LGM_MOST_STEPS 0x4c4b40", "constant LGM_MOST_STEPS: 0"),
     ("    LGM_SO_FAR = 27,", "    LGM_SO_FAR = 28,", "constant LGM_SO_FAR: 28"),
@@ -56,7 +59,10 @@ def main():
         failed.append(f"a library without {exported[0]}")
     if differences(header, sources, [*exported, "malloc"]) != ["function malloc: none in lgm.h, there in the library"]:
         failed.append("a library that exports more")
-    print(*failed, f"{len(CHANGES) + 3} tests, {len(failed)} failed", sep="\n")
+    more = header.replace("void lgm_free(", "void lgm_drop(lgm_map *map);\nvoid lgm_free(")
+    if unwrapped(header) or [line.split(":")[0] for line in unwrapped(more)] != ["function lgm_drop"] * 2:
+        failed.append("a function that no wrapper calls")
+    print(*failed, f"{len(CHANGES) + 4} tests, {len(failed)} failed", sep="\n")
     return 1 if failed else 0
 
 

@@ -380,6 +380,57 @@ static void refused_without_memory(lgm_map *map, lgm_payment payment) {
 }
 
 /* Each call once, while one allocation fails. */
+/* A hop from a to b, and what b gets beside it: metadata, and a custom record. */
+static lgm_hop one_hop(void) {
+    lgm_hop hop = {.scid = scid, .amount_msat = 1000, .payload_len = 77, .expiry = 700000};
+    memcpy(hop.from, a, 33);
+    memcpy(hop.to, b, 33);
+    return hop;
+}
+
+static const uint8_t bytes[3] = {1, 2, 3};
+static const lgm_record records[2] = {{65536, bytes, 3}, {65537, NULL, 0}};
+static const lgm_arrival arrival = {
+    .total_msat = 3000, .metadata = bytes, .metadata_len = 3, .records = records, .records_len = 2};
+
+/* 45 bytes as of a payment in one part, and records of 5, 9 and 6 bytes. */
+static void payloads_without_memory(void) {
+    lgm_hop hop = one_hop();
+    lgm_lengths lengths = {77, 77};
+    uint8_t room[LGM_MOST_PAYLOADS] = {5};
+    AGAIN("payloads", lgm_payloads(&arrival, &hop, 1, room, sizeof room, &lengths), LGM_OK);
+    expect("their length", lengths.payloads, 1 + 45 + 5 + 9 + 6);
+    expect("that of the hop", hop.payload_len, lengths.payloads);
+    expect("the length in front", room[0], lengths.payloads - 1);
+}
+
+static void payloads(void) {
+    static const lgm_record descending[2] = {{65537, bytes, 3}, {65536, bytes, 3}}, reserved[1] = {{65535, bytes, 3}};
+    lgm_arrival other = arrival;
+    lgm_hop hop = one_hop(), two[2] = {one_hop(), one_hop()};
+    lgm_lengths lengths = {77, 77};
+    uint8_t room[LGM_MOST_PAYLOADS] = {5};
+    none_left = true;
+    expect("no hops", lgm_payloads(&arrival, NULL, 0, room, sizeof room, &lengths), LGM_ARGUMENT);
+    expect("hops that don't follow", lgm_payloads(&arrival, two, 2, room, sizeof room, &lengths), LGM_ARGUMENT);
+    expect("no memory", lgm_payloads(&arrival, &hop, 1, room, sizeof room, &lengths), LGM_NO_MEMORY);
+    none_left = false;
+    other.records = descending;
+    expect("types that descend", lgm_payloads(&other, &hop, 1, room, sizeof room, &lengths), LGM_ARGUMENT);
+    other.records = reserved;
+    other.records_len = 1;
+    expect("a type that isn't custom", lgm_payloads(&other, &hop, 1, room, sizeof room, &lengths), LGM_ARGUMENT);
+    expect("the lengths", lengths.hops + lengths.payloads, 2 * 77);
+    expect("the hop", hop.payload_len, 77);
+    expect("the room", room[0], 5);
+    expect("null for payloads", lgm_payloads(&arrival, &hop, 1, NULL, 0, &lengths), LGM_ROOM);
+    expect("their length", lengths.payloads, 1 + 45 + 5 + 9 + 6);
+    expect("the hop", hop.payload_len, 77);
+    other = (lgm_arrival){.total_msat = 3000};
+    expect("null for metadata and records", lgm_payloads(&other, &hop, 1, room, sizeof room, &lengths), LGM_OK);
+    expect("the length", hop.payload_len, 1 + 45);
+}
+
 static void out_of_memory(void) {
     lgm_map map = {0};
     lgm_payment payment = {.amount_msat = 1000, .expiry = 700000};
@@ -427,11 +478,13 @@ int main(void) {
         left = ++requests;
         out_of_memory();
         banning();
+        payloads_without_memory();
         left = 0;
     } while (has_failed);
     expect("some memory", requests > 20, true);
     closed_handles();
     words();
+    payloads();
     opening(&map);
     offering(&map);
     looking(&map);

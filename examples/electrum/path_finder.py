@@ -15,7 +15,7 @@ it doesn't use either: it asks the wallet's cost function (`_edge_cost`) about e
 infinitely much, and searches again. Such a direction is left out for the whole payment, though it might do for another
 amount.
 
-It is written for Electrum 4.3.4 (python3-electrum), and needs the library: see `lgm.py` in `examples/python`.
+It is written for Electrum 4.3.4 (python3-electrum), and needs the library: see the package `lgm` in `python`.
 """
 
 from __future__ import annotations

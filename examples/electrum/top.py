@@ -1,7 +1,7 @@
-"""Leads to the top of the repository, with the package `gossip`, and to the library's Python module."""
+"""Leads to the top of the repository, with the package `gossip`, and to the Python package `lgm`."""
 
 import sys
 from pathlib import Path
 
 TOP = Path(__file__).resolve().parents[2]
-sys.path += [str(TOP), str(TOP / "examples" / "python")]
+sys.path += [str(TOP), str(TOP / "python")]

@@ -1,8 +1,8 @@
 #!/usr/bin/env python3
 """Announces the channels of examples/payments.txt to a map, and asks for the route of its first payment.
 
-    examples/build-c
-    python3 examples/python/route.py
+    python3 examples/python/route.py                     # with the package `lgm` installed
+    PYTHONPATH=python python3 examples/python/route.py   # in a clone, after examples/build-c
 """
 
 from pathlib import Path

@@ -4,7 +4,7 @@ numbers are worked out by hand, from docs/protocol.md.
 
 from calls import (
     A, B, HOP, LENGTHS, NUMBER, PAYLOAD, PAYMENT, SECRET, Hop, at, closed, free, library, opened, paid, published, test)
-from lgm_library import EDGE, LIMIT, MOST_HOPS, MOST_PAYLOADS, SEARCH
+from lgm.library import EDGE, LIMIT, MOST_HOPS, MOST_PAYLOADS, SEARCH
 
 C, D = b"\4" * 33, b"\5" * 33
 DIRECT = 0, 1, NUMBER, 10_000, 700_000  # the answer over the channel of the map alone

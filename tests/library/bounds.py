@@ -5,9 +5,9 @@ from ctypes import create_string_buffer
 from pathlib import Path
 
 from calls import (
-    ANNOUNCEMENT, FILTER, SCID, UPDATE, closed, filtered, free, library, news, offered, opened, opened_empty,
-    published, queried, test)
-from gossip.messages import query_short_channel_ids
+    A, ANNOUNCEMENT, CHANNEL_OF_BOTH, FILTER, SCID, TERMS_OF_A, UPDATE, closed, filtered, free, library, news, offered, opened,
+    opened_empty, published, queried, test)
+from gossip.messages import query_short_channel_ids, short_channel_id
 
 LONGEST = 65_535  # bytes of a message
 MARGIN = 4_000  # KiB that the process may take beside, in whole pages, of which some may be huge
@@ -29,6 +29,24 @@ def a_length_takes_no_room():
     assert queried(handle, query, bytearray()) == (104, 131_086_043)
     more = most_memory() - before
     assert more < MARGIN, f"{more} KiB more"
+    free(handle)
+
+
+@test
+def answers_beyond_16_mib():
+    """A backlog and news of 19 MiB are written whole: 300 channels with messages of 65,535 bytes, by their ids."""
+    handle, expected = opened_empty(), b""
+    for transaction in range(1, 301):
+        scid = short_channel_id(600_000, transaction, 0)
+        announcement = CHANNEL_OF_BOTH._replace(scid=scid).encode(bitcoin_keys=(A, A)).ljust(LONGEST, b"\0")
+        update = TERMS_OF_A._replace(scid=scid).encode()
+        assert offered(handle, announcement, 0, 1) == 0
+        assert offered(handle, update, 2, 0) == 0
+        expected += b"".join(len(message).to_bytes(8, "little") + message for message in (announcement, update))
+    for answered in (filtered, news):
+        room = bytearray(len(expected))
+        assert answered(handle, FILTER, room) == (0, len(expected))
+        assert room == expected
     free(handle)
 
 

@@ -9,12 +9,12 @@ from ctypes import byref, c_char, c_size_t, create_string_buffer
 from pathlib import Path
 
 TOP = Path(__file__).resolve().parents[2]
-sys.path[1:1] = [str(TOP), str(TOP / "examples" / "python")]
+sys.path[1:1] = [str(TOP), str(TOP / "python")]
 
 from gossip.messages import (  # noqa: E402
     CHAIN, HAS_MAXIMUM, ChannelAnnouncement, ChannelUpdate, NodeAnnouncement, gossip_timestamp_filter,
     query_channel_range, short_channel_id)
-from lgm_library import CHANNEL, CHANNEL_LEN, DIRECTION, HOP, LENGTHS, NODE, PAYMENT, SIZE_OF_HANDLE, load  # noqa: E402
+from lgm.library import CHANNEL, CHANNEL_LEN, DIRECTION, HOP, LENGTHS, NODE, PAYMENT, SIZE_OF_HANDLE, load  # noqa: E402
 
 A, B = b"\2" * 33, b"\3" * 33
 SCID = short_channel_id(600_000, 1, 0)

@@ -6,7 +6,7 @@ from ctypes import byref, c_uint64
 
 from attempts import OVER_6, OVER_7, PLAIN, TWO_HINTS, C, answer, answer_of_both, both_kinds, edge, refusal, search
 from calls import A, B, NUMBER, at, closed, free, library, test
-from lgm_library import ESTIMATE
+from lgm.library import ESTIMATE
 
 MOST = 2**64 - 1
 UNKNOWN = 0, MOST, 0  # what is believed of an edge of which nothing is known

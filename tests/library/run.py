@@ -18,12 +18,12 @@ sys.dont_write_bytecode = True  # the repository gets no made files
 
 TOP = Path(__file__).resolve().parents[2]
 SHARED_OBJECT = Path(sys.argv[1]).resolve() if len(sys.argv) > 1 else TOP / "examples/out/liblgm.so"
-FILES = ("each_call", "attempts", "bounds", "estimates", "listing", "published", "wanted")
+FILES = ("each_call", "arrivals", "attempts", "bounds", "estimates", "listing", "published", "wanted")
 
 
 def all_tests():
     """The tests of all files, by their names."""
-    os.environ["LGM_LIBRARY"] = str(SHARED_OBJECT)  # for lgm_library.py
+    os.environ["LGM_LIBRARY"] = str(SHARED_OBJECT)  # for the package lgm
     for file in FILES:
         import_module(file)
     return import_module("calls").TESTS
