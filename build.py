@@ -42,9 +42,9 @@ MOST_AT_ONCE = 4
 MEMORY_OF_ONE = 6 << 30  # bytes, for a check that shares its work among several processors
 MEMORY_OF_JOB = 2 << 30  # bytes, for what one processor does of it
 # What proofs of libraries took on four processors, of two at a time. Only the order and who gives way depend on it.
-SECONDS = {"lgm_hex": 30, "lgm_wire": 41, "lgm_par": 50, "lgm_gossip": 125, "lgm_check": 58, "lgm_script": 180, "lgm_store": 130,
-           "lgm_query": 130, "lgm_graph": 122, "lgm_route": 157, "lgm_timeline": 110, "lgm_payload": 55, "lgm_answers": 70, "lgm_board": 110,
-           "lgm_run": 170, "lgm_live": 270, "lgm_start": 80}
+SECONDS = {"lgm_hex": 30, "lgm_wire": 48, "lgm_par": 50, "lgm_gossip": 137, "lgm_check": 61, "lgm_script": 250, "lgm_store": 220,
+           "lgm_query": 150, "lgm_graph": 302, "lgm_route": 454, "lgm_timeline": 150, "lgm_payload": 71, "lgm_answers": 96,
+           "lgm_board": 170, "lgm_run": 223, "lgm_live": 238, "lgm_start": 66}
 NEARLY = 0.8  # of the longest chain of libraries that wait for each other
 BYTES_A_SECOND = 1_500
 NO_CHAIN = "00" * 32

@@ -11,6 +11,8 @@ that its maximum allows. What is paid moves no balance, so each way of paying me
 
 - least: the route that sends least
 - preferred: with what a failed try and a hop are worth, in msat
+- in parts: by `lgm.payer`, which divides the amount where the whole has no route or has failed; parts that arrived wait for
+  the others
 - learning: with estimates too, from one payment to the next, as a service has them that pays for many: the edges before the
   one that failed, and all of a payment that arrived, have carried what they were to carry, and that one has failed to. They
   are learnt from as many payments as are counted and more before, and halved now and then.
@@ -34,26 +36,28 @@ import lgm
 from gossip.messages import CHAIN
 from gossip.networks import Network
 from gossip.workloads import HEIGHT, sync
+from lgm.payer import Bounds, Invoice, Payer, Unpaid, halve
 
 AMOUNTS = (10_000, 100_000, 500_000, 2_000_000)  # sat
 BLOCKS = 2_016
 TRIES = 20
 SKEW = 0.3  # both parameters of the beta distribution
-KEPT = 16  # an estimate that says less than a part in so many of the capacity is forgotten
 SECRET = bytes(32)
 PICTURE = Path(__file__).resolve().parent / "paying.svg"
 
 
 class Way(NamedTuple):
-    """A way of paying: its name, preferences if it has any, and whether it learns."""
+    """A way of paying: its name, preferences if it has any, whether it learns, and whether it pays in parts."""
 
     name: str
     preferences: Optional[tuple] = None
     learns: bool = False
+    divides: bool = False
 
 
 WAYS = (Way("least"), Way("20,000 and 500", (20_000, 500)), Way("100,000 and 500", (100_000, 500)),
-        Way("20,000 and 500, learning", (20_000, 500), True), Way("100,000 and 500, learning", (100_000, 500), True))
+        Way("20,000 and 500, learning", (20_000, 500), True), Way("100,000 and 500, learning", (100_000, 500), True),
+        Way("20,000 and 500, in parts", (20_000, 500), divides=True))
 
 
 class World(NamedTuple):
@@ -61,6 +65,7 @@ class World(NamedTuple):
 
     network: object
     balances: dict  # by id and start
+    own: dict  # a node's channels as its own, of those that pay
     before: list
     pairs: list
 
@@ -109,12 +114,24 @@ def balances_of(made, numbers):
     return balances
 
 
+def own_channels(network, points):
+    """The channels of these nodes as their own: each sends as much as its maximum allows."""
+    found = {point: [] for point in points}
+    for scid in network.channels():
+        channel = network.channel(scid)
+        for start, end, terms in ((channel.node_1, channel.node_2, channel.from_1), (channel.node_2, channel.node_1, channel.from_2)):
+            if start in found and terms is not None and not terms.is_disabled:
+                found[start].append(lgm.Edge(scid, start, end, htlc_maximum_msat=terms.htlc_maximum_msat))
+    return found
+
+
 def drawn(options):
     """The world of these options."""
     made, numbers = Network(options.channels, options.seed), random.Random(options.seed)
     balances = balances_of(made, numbers)
     pairs = [tuple(numbers.sample(made.nodes, 2)) for _ in range(options.before + options.payments)]
-    return World(offer_all(made), balances, pairs[:options.before], pairs[options.before:])
+    network, counted = offer_all(made), pairs[options.before:]
+    return World(network, balances, own_channels(network, {start for start, _ in counted}), pairs[:options.before], counted)
 
 
 def failing(route, balances):
@@ -132,18 +149,6 @@ def learn(estimates, route, failed):
     if failed is not None:
         hop = route.hops[failed]
         estimates.failed(hop.scid, hop.start, hop.amount_msat)
-
-
-def halve(network, estimates):
-    """Moves each estimate halfway to nothing known, and forgets those that say little."""
-    for scid, start, known in list(estimates):
-        capacity = 1_000 * network.channel(scid).capacity_sat
-        least, most = known.least_msat // 2, min(known.most_msat, capacity)
-        most += (capacity - most) // 2
-        if KEPT * least < capacity and KEPT * (capacity - most) < capacity:
-            estimates.forget(scid, start)
-        else:
-            estimates.set(scid, start, lgm.Estimate(least, most))
 
 
 def paid(world, ends, amount, way, estimates):
@@ -165,8 +170,40 @@ def paid(world, ends, amount, way, estimates):
     return Outcome(bool(limits))
 
 
+def failing_beside(part, others, balances):
+    """The place of the first hop whose edge has less than it is to carry, beside the parts that have arrived, if there is one."""
+    filled = {}
+    for hop in (hop for other in others for hop in other.route.hops):
+        filled[hop.scid, hop.start] = filled.get((hop.scid, hop.start), 0) + hop.amount_msat
+    for place, hop in enumerate(part.route.hops[1:], 1):
+        if balances[hop.scid, hop.start] - filled.get((hop.scid, hop.start), 0) < hop.amount_msat:
+            return place
+    return None
+
+
+def paid_in_parts(world, ends, amount, way):
+    """What becomes of a payment that may be divided."""
+    start, payee = ends
+    with Payer(start, lgm.Preferences(*way.preferences)) as payer:
+        payer.channels = world.own[start]
+        payment = payer.pay(Invoice(payee, amount, SECRET, basic_mpp=True), Bounds(most_fee_msat=amount, most_tries=TRIES))
+        waiting = []
+        try:
+            while part := payment.next_part(world.network, HEIGHT):
+                failed = failing_beside(part, waiting, world.balances)
+                if failed is None:
+                    waiting.append(part)
+                else:
+                    payment.failed(part, "temporary_channel_failure", failed)
+        except (lgm.NoRoute, lgm.Undecided, Unpaid):
+            return Outcome(payment.tries > 0)
+        return Outcome(True, payment.tries, payment.fee_msat)
+
+
 def outcomes(world, amount, way, decay):
     """The outcomes of all payments of an amount that are counted."""
+    if way.divides:
+        return [paid_in_parts(world, ends, amount, way) for ends in world.pairs]
     if not way.learns:
         return [paid(world, ends, amount, way, None) for ends in world.pairs]
     found = []

@@ -582,6 +582,14 @@ def test_recipes(out):
     report("recipes", subprocess.run(words, check=False).returncode == 0)
 
 
+def test_payer():
+    """`lgm.payer` and `lgm.Board` do what they say, and so does the service that stands on both."""
+    report("lgm.payer", subprocess.run([sys.executable, HERE / "test_payer.py"], check=False).returncode == 0)
+    found = output([sys.executable, HERE / "python" / "service.py"])
+    ends = dict(reversed(end.split(" ")) for end in (found or b"").decode().strip().split(", ")) if found else {}
+    report("service.py", sum(map(int, ends.values())) == 200 and int(ends.get("paid", 0)) >= 100)
+
+
 def test_dump():
     """What a map has is written to a file and loaded again, and damaged files are told."""
     words = [sys.executable, TOP / "python" / "tests" / "test_dump.py"]
@@ -642,6 +650,7 @@ def main():
         test_so_far()
         test_one_class()
         test_recipes(out)
+        test_payer()
         test_dump()
         test_electrum()
         test_routes(out)

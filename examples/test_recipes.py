@@ -19,6 +19,7 @@ from blocks import block
 from test_embedding import CHAIN, CHANNELS, HERE, TOP, announced, is_wanted, made_script, output, stored
 
 import lgm  # of python, where test_embedding.py leads to
+from lgm.payer import Bounds, Invoice, Payer
 
 CHAIN = bytes.fromhex(CHAIN)
 DAY = 86_400
@@ -51,25 +52,28 @@ def an_invoice_is_paid():
     def point(letter):
         return b"\2" + bytes([letter]) * 32
 
-    def send(route):
+    def send(route, payloads):
+        assert len(payloads) == len(route.hops)
         sent.append(([hop.scid >> 40 for hop in route.hops], route.sent_msat, route.expiry))
-        return 1 if len(sent) == 1 else None
+        return (1, "temporary_channel_failure") if len(sent) == 1 else (None, None)
 
-    payer, payee, sent = point(1), point(2), []
+    payee, sent = point(2), []
     hint = SimpleNamespace(scid=7 << 40, node=point(13), next=payee, base=700, millionths=0, delta=40)
-    invoice = SimpleNamespace(hints=[hint], payee=payee, msat=10_000_000, secret=bytes(32), min_final_cltv_expiry_delta=18)
+    invoice = SimpleNamespace(hints=[hint], payee=payee, msat=10_000_000, secret=bytes(32), min_final_cltv_expiry_delta=18,
+                              metadata=None, basic_mpp=False)
     channels = [SimpleNamespace(scid=scid << 40, peer=peer, can_send=can_send, is_connected=is_connected)
                 for scid, peer, can_send, is_connected in (
                     (1, point(11), 11_000_000, True), (2, point(13), 10_000_699, True), (3, point(13), 11_000_000, False))]
-    names = {"network": None, "payer": payer, "channels": channels, "invoice": invoice, "height": 700_000, "most_fee": 10_000,
-             "send": send, "Edge": lgm.Edge, "Limit": lgm.Limit, "Preferences": lgm.Preferences}
-    with lgm.Map(CHAIN) as names["network"], lgm.Estimates() as names["estimates"]:
+    names = {"channels": channels, "invoice": invoice, "height": 700_000, "most_fee": 10_000, "send": send, "Edge": lgm.Edge,
+             "Invoice": Invoice, "Bounds": Bounds}
+    with lgm.Map(CHAIN) as names["network"], Payer(point(1)) as names["payer"]:
         for item in items_of((HERE / "payments.txt").read_text()):
             names["network"].offer(*item)
-        exec(block("docs/operating.md", "own = [Edge(c.scid, payer, c.peer, htlc_maximum_msat=c.can_send)"), names)
-        learnt = {scid >> 40: (known.least_msat, known.most_msat) for scid, _, known in names["estimates"]}
-    # What the first try sent over its hop failed; the second one's public hops carried theirs. Nothing is learnt of the others.
-    assert learnt == {600_003: (0, 10_000_699), 600_001: (10_004_200, 2**64 - 1), 600_002: (10_000_700, 2**64 - 1)}
+        exec(block("docs/operating.md", "payer.channels = [Edge(c.scid, payer.point, c.peer"), names)
+        assert names["payment"].is_paid
+        learnt = {scid >> 40: (known.least_msat, known.most_msat) for scid, _, known in names["payer"].estimates}
+    # What the first try sent over its hop failed. Of an edge that carried its amount for good nothing is known.
+    assert learnt == {600_003: (0, 10_000_699)}
     # D takes 700. Then B takes 3,000 and 10 blocks; or C 500 and 300 ppm and 20 blocks, and B 1,000 and 200 ppm and 34.
     assert sent == [
         ([1, 600_003, 7], 10_003_700, 700_021 + 40 + 10), ([1, 600_001, 600_002, 7], 10_007_200, 700_021 + 40 + 20 + 34)]

@@ -26,14 +26,18 @@ TypeError, and one out of its range ValueError, before the library is called. A 
 fault, such as `NotNewer`; all of these are subclasses of `Fault`. Any thread may use a `Map`, and `Estimates`: the calls
 of one wait for one another. Threads that are to read at once take a published map each, which never changes:
 
-    latest = network.publish()   # by the thread that changes the map
-    mine = latest.share()        # by each thread that reads: it waits for nobody, and nobody for it
+    board = Board(network)       # publishes it
+    board.publish()              # by the thread that changes the map
+    board.latest().route(..)     # by each thread that reads: it waits for nobody, and nobody for it
+
+`lgm.payer` pays an invoice: it says what to send next, and is told what became of it.
 
 The library is loaded for the first `Map`. It is the file that LGM_LIBRARY names; else the one in this package; else, in a
 clone, the one in `examples/out`, where `examples/build-c` puts it; else the system's. `lgm.dump` writes a map to a file.
 """
 
 from .arrival import payloads
+from .board import Board
 from .estimates import Estimates
 from .faults import (AmountTooLarge, AmountZero, Argument, Banned, Chain, Closed, Conflict, ExpiryTooLarge, Fault, Full, Funding,
                      Ignored, Known, Malformed, NodeOrder, NoMemory, NoRoute, NotAnnounced, NotFilter, NotGossip, Nothing,
@@ -44,7 +48,7 @@ from .packing import ALL_FOUR, NOBODY, NOT_ALL_FOUR, NOT_ASKED, SPENT, WRONG
 from .records import Channel, Direction, Edge, Estimate, Hop, Limit, Node, Preferences, Route, short_channel_id
 
 __all__ = [
-    "ALL_FOUR", "ANNOUNCEMENT", "AmountTooLarge", "AmountZero", "Argument", "Banned", "Chain", "Channel", "Closed", "Conflict",
+    "ALL_FOUR", "ANNOUNCEMENT", "AmountTooLarge", "AmountZero", "Argument", "Banned", "Board", "Chain", "Channel", "Closed", "Conflict",
     "Direction", "Edge", "Estimate", "Estimates", "ExpiryTooLarge", "Fault", "Full", "Funding", "Hop", "Ignored", "Known",
     "Limit", "Malformed", "Map", "NOBODY", "NOT_ALL_FOUR", "NOT_ASKED", "NoMemory", "NoRoute", "Node", "NodeOrder",
     "NotAnnounced", "NotFilter", "NotGossip", "NotNewer", "NotQuery", "Nothing", "Open", "Point", "Preferences", "Private",

@@ -69,19 +69,20 @@ fn an_estimate_turns_a_payment(rt: HostRuntime) -> Result<(), Fail> {
     Ok(())
 }
 
-/// Over two channels: a step for the edge into the payee, and one for that into the node before. The first walk is found
-/// ahead of them, and takes the label of the payee and one of that node.
+/// Over two channels: a step for each of the two labels that are settled, one for each edge into their nodes, and one for the
+/// comparison of a new label of the node between with the one that it has. The first walk is found ahead of them, and takes
+/// the label of the payee and that one.
 #[test]
-fn a_step_for_each_edge(rt: HostRuntime) -> Result<(), Fail> {
+fn steps_of_a_search(rt: HostRuntime) -> Result<(), Fail> {
     let alloc = rt.alloc();
     let ways = [way(1, 0, 1, 0, 40), way(2, 1, 2, 5, 40)];
     let route: [Told; 2] = [(1, 0, 1, 1005, 700_040), (2, 1, 2, 1000, 700_000)];
     let found = Ok(route.as_slice());
     for (most_labels, most_steps, is_best, wanted) in [
-        (2, 2, true, found),
-        (2, 1, false, found),
+        (2, 5, true, found),
+        (2, 4, false, found),
         (2, 0, false, found),
-        (1, 2, true, UNDECIDED),
+        (1, 5, true, UNDECIDED),
     ] {
         let (estimates, asked) = (estimates_of(alloc, &[])?, asked(most_labels, most_steps));
         assert_preferred(&rt, alloc, &ways, 2, &estimates, &asked, is_best, wanted)?;
@@ -91,8 +92,8 @@ fn a_step_for_each_edge(rt: HostRuntime) -> Result<(), Fail> {
 
 /// For 1,000 msat alone nodes 1 and 2 would charge as much each, and node 4 charges 2,500 msat. So the first walk is over
 /// nodes 1 and 2, which charge 3,000 msat together; it takes the labels of the payee and of these, and no step. The best
-/// one takes the label of node 4 too, and the steps of the two edges into the payee, of the one into node 2, and of the one
-/// into node 4.
+/// one takes the label of node 4 too, and the steps of three labels that are settled, of the two edges into the payee, the one
+/// into node 2 and the one into node 4, and of the comparisons of new labels of nodes 2 and 1 with those that they have.
 #[test]
 fn a_route_so_far(rt: HostRuntime) -> Result<(), Fail> {
     let alloc = rt.alloc();
@@ -115,11 +116,11 @@ fn a_route_so_far(rt: HostRuntime) -> Result<(), Fail> {
     ];
     let best: [Told; 2] = [(4, 0, 4, 3500, 700_040), (5, 4, 5, 1000, 700_000)];
     for (most_labels, most_steps, is_best, wanted) in [
-        (4, 4, true, Ok(best.as_slice())),
-        (4, 3, false, Ok(first.as_slice())),
+        (4, 9, true, Ok(best.as_slice())),
+        (4, 8, false, Ok(first.as_slice())),
         (4, 0, false, Ok(first.as_slice())),
-        (3, 4, false, Ok(first.as_slice())),
-        (2, 4, true, UNDECIDED),
+        (3, 9, false, Ok(first.as_slice())),
+        (2, 9, true, UNDECIDED),
     ] {
         let (estimates, asked) = (estimates_of(alloc, &[])?, asked(most_labels, most_steps));
         assert_preferred(&rt, alloc, &ways, 5, &estimates, &asked, is_best, wanted)?;
