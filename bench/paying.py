@@ -11,8 +11,8 @@ that its maximum allows. What is paid moves no balance, so each way of paying me
 
 - least: the route that sends least
 - preferred: with what a failed try and a hop are worth, in msat
-- in parts: by `lgm.payer`, which divides the amount where the whole has no route or has failed; parts that arrived wait for
-  the others
+- in parts: by `lgm.payer`, which divides the amount where the whole has no route any more; parts that arrived wait for the
+  others, and each part is a try
 - learning: with estimates too, from one payment to the next, as a service has them that pays for many: the edges before the
   one that failed, and all of a payment that arrived, have carried what they were to carry, and that one has failed to. They
   are learnt from as many payments as are counted and more before, and halved now and then.
@@ -215,9 +215,8 @@ def outcomes(world, amount, way, decay):
     return found[len(world.before):]
 
 
-def share(found, tries):
-    """The part of the payments with a route that arrived by a try."""
-    routed = sum(it.is_routed for it in found)
+def share(found, tries, routed):
+    """How many payments arrived by a try, as a part of those whose whole amount has a route."""
     return sum(it.tries is not None and it.tries <= tries for it in found) / routed if routed else 0.0
 
 
@@ -237,9 +236,9 @@ def rows(sat, by_way):
     """The rows of an amount, with a column for each way."""
     everywhere = [place for place, each in enumerate(zip(*by_way)) if all(it.tries is not None for it in each)]
     routed = sum(it.is_routed for it in by_way[0])
-    yield f"{sat:,} sat, {routed} with a route", "at the first try", [f"{share(found, 1):.0%}" for found in by_way]
-    yield "", "by the third", [f"{share(found, 3):.0%}" for found in by_way]
-    yield "", f"by the {TRIES}th", [f"{share(found, TRIES):.0%}" for found in by_way]
+    yield f"{sat:,} sat, {routed} with a route", "at the first try", [f"{share(found, 1, routed):.0%}" for found in by_way]
+    yield "", "by the third", [f"{share(found, 3, routed):.0%}" for found in by_way]
+    yield "", f"by the {TRIES}th", [f"{share(found, TRIES, routed):.0%}" for found in by_way]
     yield "", "tries, if it arrived", [tries_of(found) for found in by_way]
     yield "", f"fee, of {len(everywhere)} that arrived each way", [fee_ppm(found, everywhere, 1_000 * sat) for found in by_way]
 
@@ -256,8 +255,9 @@ def panel(place, title, by_way):
         yield plot.text(left - 8, round(y + 4, 1), "end", f"{part} %", 11)
     for tries in (1, 5, 10, 15, 20):
         yield plot.text(round(across[tries - 1], 1), top + height + 16, "middle", str(tries), 11)
+    routed = sum(it.is_routed for it in by_way[0])
     for color, found in zip(plot.COLORS, by_way):
-        points = " ".join(f"{x:.1f},{top + height * (1 - share(found, tries)):.1f}" for tries, x in enumerate(across, 1))
+        points = " ".join(f"{x:.1f},{top + height * (1 - share(found, tries, routed)):.1f}" for tries, x in enumerate(across, 1))
         yield f'<polyline points="{points}" fill="none" stroke="{color}" stroke-width="2"/>'
 
 

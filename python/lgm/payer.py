@@ -37,9 +37,6 @@ NOTHING_KNOWN = Estimate()
 # Of blocks that may come while a payment is under way, so that its expiry isn't too soon for the payee.
 SPARE_BLOCKS = 3
 
-# How many parts of one size fail before they get smaller, where the payee takes several.
-PATIENCE = 3
-
 # An estimate that says less than a part in so many of the capacity is forgotten.
 KEPT = 16
 
@@ -276,7 +273,6 @@ class Payment:
         self._silent: Set[bytes] = {payer.point}
         self._most_blocks = bounds.most_blocks
         self._most_part = invoice.amount_msat
-        self._failed_of_size = 0
         self._doubted: Dict[Key, Optional[Direction]] = {}  # terms that were refused
         self._under_way: Dict[Part, UnderWay] = {}
         self._refusal: Optional[PayeeRefused] = None
@@ -308,15 +304,13 @@ class Payment:
         arrived. The part is under way from now on.
 
         Raises `NoRoute`, `Undecided`, `TooDear`, `TriesUsedUp` or `PayeeRefused`, if there is none. The amount is divided where
-        the whole has no route within the bounds, or has failed several times."""
+        the whole has no route within the bounds any more."""
         if self.left_msat == 0:
             return None
         if self._refusal is not None:
             raise self._refusal
         if self.tries >= self._bounds.most_tries:
             raise TriesUsedUp(f"{self.tries} parts were sent")
-        if self._failed_of_size >= PATIENCE:
-            self._divide()
         self._exclude_doubted(network)
         while True:
             try:
@@ -371,7 +365,7 @@ class Payment:
         half = -(-self._next_amount() // 2)
         if self._parts_left() <= pieces or half < self._bounds.least_part_msat:
             return False
-        self._most_part, self._failed_of_size = half, 0
+        self._most_part = half
         return True
 
     def _route(self, network: Map, height: int, amount: int) -> Route:
@@ -412,7 +406,6 @@ class Payment:
         is_public = key in kept.terms
         if error in BALANCE_ERRORS:
             self._limit(key, hop.amount_msat - 1)
-            self._failed_of_size += 1
             if is_public:
                 self._payer.estimates.failed(hop.scid, hop.start, hop.amount_msat)
         elif error in EXPIRY_ERRORS:
