@@ -81,6 +81,7 @@ def one_part_arrives():
         assert payment.left_msat == 0 and payment.parts_under_way == [part] and not payment.is_paid
         assert payment.next_part(network, HEIGHT) is None
         payment.arrived(part)
+        assert raised(payment.arrived, part) is ValueError is raised(payment.failed, part)
         assert payment.is_paid and payment.parts_under_way == [] and payment.fee_msat == 1_000
         assert payment.next_part(network, HEIGHT) is None
 

@@ -322,8 +322,7 @@ class Payment:
 
     def arrived(self, part: Part) -> None:
         """Notes that a part has arrived. What its edges carried is gone from them for good."""
-        del self._under_way[part]
-        self._payer.settle(part.route.hops)
+        self._end(part)
         self.parts_arrived.append(part)
 
     def failed(self, part: Part, error: Optional[str] = None, node: Optional[int] = None) -> None:
@@ -332,8 +331,7 @@ class Payment:
 
         The edges up to that node have carried their amounts, and what the error says is kept for the payment, or learnt of the
         next edge. With an error about an edge's terms offer the update that came with it to the map first."""
-        kept = self._under_way.pop(part)
-        self._payer.settle(part.route.hops)
+        kept = self._end(part)
         self._payer.give_back(kept.lent)
         if node is None or error is None:
             self._exclude_first(part)
@@ -345,6 +343,14 @@ class Payment:
             self._learn_of(part.route.hops[node], error, kept)
         elif error != WAITED_ERROR:
             self._refusal = PayeeRefused(error)
+
+    def _end(self, part: Part) -> UnderWay:
+        """Takes a part from those that are under way. Raises ValueError if it is none of them."""
+        kept = self._under_way.pop(part, None)
+        if kept is None:
+            raise ValueError("the part isn't under way in this payment")
+        self._payer.settle(part.route.hops)
+        return kept
 
     def _pieces(self) -> int:
         """How many parts are to carry what is left."""
