@@ -14,7 +14,7 @@ use Rattle.lgm_graph.specs.declared.edge.Edge.{Edge}
 use Rattle.lgm_graph.specs.Edges.{PointEdge}
 use Rattle.lgm_graph.specs.Graph.{GraphNode, Shows, bare_node, edges_with, node_with, number_of, IsNumbered, IsJoined, numbered_in}
 use Rattle.lgm_graph.specs.Overlay.{OverlayParts, is_named, is_used, with_first, limited}
-use Rattle.lgm_graph.specs.inner.Overlaying.{Touched, IsSaid, AreSaid, sayings_of, has_id, laid_by, said_of}
+use Rattle.lgm_graph.specs.inner.Overlaying.{Touched, IsSaid, AreSaid, sayings_of, is_extra_in, laid_by, said_of}
 use Rattle.lgm_graph.proofs.Further.{number_left, slice_left}
 use Rattle.lgm_graph.proofs.NewNumberLaws.{number_at}
 use Rattle.lgm_graph.proofs.Places.{get_map}
@@ -34,7 +34,7 @@ module _ (overlay : OverlayParts) (points : List Point) (t : Touched) (said : Ar
       at : IsSaid (sayings_of overlay) points edge.from (said_of t (number_of points edge.from))
       at = said (number_of points edge.from) edge.from (slice_number points edge.from both.0)
 
-      ids : has_id edge.scid (said_of t (number_of points edge.from)).leaving ≡ is_named overlay.extra edge
+      ids : is_extra_in (said_of t (number_of points edge.from)).terms edge.scid ≡ is_named overlay.extra edge
       ids = named_said overlay edge points t said both.0
 
       by : (s : Bool) → list_any (is_point edge.from) overlay.silent ≡ s → (n : Bool) → is_named overlay.extra edge ≡ n

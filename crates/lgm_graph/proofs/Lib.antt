@@ -9,7 +9,7 @@ mod PushedEdgeLaws
 mod NewNumberLaws
 mod Walked
 mod WrittenEdgeLaws
-mod LimitLaws
+mod TermLaws
 mod NodeListLaws
 mod ChangeLaws
 mod UpdateLaws

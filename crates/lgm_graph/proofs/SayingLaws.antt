@@ -5,6 +5,7 @@ use Rattle.std.specs.Prelude.{eqb, min, unwrap_or}
 use Rattle.std.specs.List.{IsDistinct, filter, list_any, position, slice_get}
 use Rattle.std.proofs.lemmas.List.{map-append, append-nil, take_more}
 use Rattle.std.proofs.lemmas.List.Elements.{filter-append}
+use Rattle.std.proofs.lemmas.Bool.{eqb-true}
 use Rattle.std.proofs.lemmas.List.Folds.{list_any-append}
 use Rattle.std.proofs.lemmas.List.Sums.{fold-append}
 use Rattle.std.proofs.lemmas.Option.{slice_get-get_or}
@@ -14,6 +15,7 @@ use Rattle.lgm_store.proofs.Points.{same_point, is_point-self}
 use Rattle.lgm_graph.specs.declared.edge.Edge.{Edge}
 use Rattle.lgm_graph.specs.declared.overlay.ExtraEdge.{ExtraEdge}
 use Rattle.lgm_graph.specs.declared.overlay.Limit.{Limit}
+use Rattle.lgm_graph.specs.declared.overlay_view.edge_terms.EdgeTerms.{EdgeTerms}
 use Rattle.lgm_graph.specs.declared.overlay_view.saying.Saying.{Saying}
 use Rattle.lgm_graph.specs.declared.overlay_view.saying.Saying.TheVariants.{Silent, Limited, Leaving, Entering}
 use Rattle.lgm_graph.specs.Edges.{PointEdge}
@@ -21,11 +23,12 @@ use Rattle.lgm_graph.specs.Graph.{edges_with, number_of, IsNumbered, numbered_in
 use Rattle.lgm_graph.specs.Overlay.{OverlayParts, has_key, is_named, with_first, firsts, extra_edge, at_most, most_of, limited}
 use Rattle.lgm_graph.specs.inner.Overlaying.{Said, Touched, Sayings, IsSaid, AreSaid, AreHeard, sayings_of, extra_over}
 use Rattle.lgm_graph.specs.Places.{at_place}
-use Rattle.lgm_graph.specs.inner.Overlaying.{nothing_of, place_of, said_of, heard, has_id, most_in}
+use Rattle.lgm_graph.specs.inner.Overlaying.{nothing_of, place_of, said_of, heard, is_extra_in, least_of, most_in, terms_of, with_limit, with_terms, as_extra}
 use Rattle.lgm_graph.proofs.Further.{not_numbered}
 use Rattle.lgm_graph.proofs.Keys.{or_false, firsts_name}
 use Rattle.lgm_graph.proofs.NewNumberLaws.{number_at}
 use Rattle.lgm_graph.proofs.Numbers.{number_some, get_number}
+use Rattle.lgm_graph.proofs.TermLaws.{terms_are, least_lowered}
 
 -- ---- points by number
 
@@ -78,6 +81,10 @@ edges_last end points edges edge p true is =
 edges_last end points edges edge p false is =
     rw (filter-append (λ e. is_point p (end e)) edges (edge ∷ []), is, append-nil (filter (λ e. is_point p (end e)) edges)) refl
 
+-- what is said of the edges with an id, with an extra edge
+abbrev extra_now : Said → ℕ → EdgeTerms
+extra_now said id = as_extra (terms_of said.terms id)
+
 or_true : (b : Bool) → (b || true) ≡ true
 or_true true = refl
 or_true false = refl
@@ -99,12 +106,14 @@ module _ (points : List Point) (sayings : Sayings) (old new : Touched) (all : Ar
       (λ p said same was. record {
         silent = sym (list_any-append (is_point p) sayings.silent (node ∷ []) ∙ rw same (or_true (list_any (is_point p) sayings.silent)));
         limits = was.limits;
+        extra = was.extra;
         leaving = was.leaving;
         entering = was.entering;
       })
       (λ p said apart was. record {
         silent = was.silent ∙ sym (list_any-append (is_point p) sayings.silent (node ∷ []) ∙ rw apart (or_false (list_any (is_point p) sayings.silent)));
         limits = was.limits;
+        extra = was.extra;
         leaving = was.leaving;
         entering = was.entering;
       })
@@ -115,8 +124,8 @@ module _ (points : List Point) (sayings : Sayings) (old new : Touched) (all : Ar
       (λ p said same was. record {
         silent = was.silent;
         limits = λ id max.
-            fold-append _ max said.limits (limit ∷ []) ∙ own p said same was id max (eqb limit.scid id) refl
-            ∙ sym (fold-append (at_most id p) max sayings.limits (limit ∷ []));
+            own p said same was id max (eqb limit.scid id) refl ∙ sym (fold-append (at_most id p) max sayings.limits (limit ∷ []));
+        extra = λ id. kept said id (eqb limit.scid id) refl ∙ was.extra id;
         leaving = was.leaving;
         entering = was.entering;
       })
@@ -124,15 +133,35 @@ module _ (points : List Point) (sayings : Sayings) (old new : Touched) (all : Ar
         silent = was.silent;
         limits = λ id max.
             was.limits id max ∙ other p apart id max (eqb limit.scid id) refl ∙ sym (fold-append (at_most id p) max sayings.limits (limit ∷ []));
+        extra = was.extra;
         leaving = was.leaving;
         entering = was.entering;
       })
     where
       own : (p : Point) (said : Said) → is_point p limit.from ≡ true → IsSaid sayings points p said → (id max : ℕ) → (c : Bool) → eqb limit.scid id ≡ c
-          → cond (eqb limit.scid id) (min (most_in said.limits id max) limit.most) (most_in said.limits id max)
-          ≡ at_most id p (most_of sayings.limits id p max) limit
-      own p said same was id max true is = rw (is, same) (ap (λ m. min m limit.most) (was.limits id max))
-      own p said same was id max false is = rw is (was.limits id max)
+          → most_in (heard said (Limited limit)).terms id max ≡ at_most id p (most_of sayings.limits id p max) limit
+      own p said same was id max c is =
+          ap (λ terms. least_of terms.limit max) (terms_are limit.scid (with_limit limit.most (terms_of said.terms limit.scid)) id said.terms)
+          ∙ by c is
+        where
+          by : (c : Bool) → eqb limit.scid id ≡ c
+              → least_of (cond (eqb limit.scid id) (with_limit limit.most (terms_of said.terms limit.scid)) (terms_of said.terms id)).limit max
+              ≡ at_most id p (most_of sayings.limits id p max) limit
+          by true is =
+              let here : limit.scid ≡ id = eqb-true limit.scid id is in
+              rw (is, same) (ap (λ n. min max (least_of (terms_of said.terms n).limit limit.most)) here
+              ∙ least_lowered (terms_of said.terms id).limit limit.most max ∙ ap (λ m. min m limit.most) (was.limits id max))
+          by false is = rw is (was.limits id max)
+
+      kept : (said : Said) (id : ℕ) (c : Bool) → eqb limit.scid id ≡ c → is_extra_in (heard said (Limited limit)).terms id ≡ is_extra_in said.terms id
+      kept said id c is =
+          ap (λ terms. terms.is_extra) (terms_are limit.scid (with_limit limit.most (terms_of said.terms limit.scid)) id said.terms) ∙ by c is
+        where
+          by : (c : Bool) → eqb limit.scid id ≡ c
+              → (cond (eqb limit.scid id) (with_limit limit.most (terms_of said.terms limit.scid)) (terms_of said.terms id)).is_extra
+              ≡ is_extra_in said.terms id
+          by true is = rw is (ap (λ n. is_extra_in said.terms n) (eqb-true limit.scid id is))
+          by false is = rw is refl
 
       other : (p : Point) → is_point p limit.from ≡ false → (id max : ℕ) → (c : Bool) → eqb limit.scid id ≡ c
           → most_of sayings.limits id p max ≡ at_most id p (most_of sayings.limits id p max) limit
@@ -144,51 +173,70 @@ module _ (points : List Point) (sayings : Sayings) (old new : Touched) (all : Ar
     leaving_more changed = step edge.from (Leaving pushed) (record sayings { leaving = sayings.leaving ++ edge ∷ [] }) changed
         (λ p said same was. record {
           silent = was.silent;
-          limits = was.limits;
+          limits = λ id max. unlimited said id max (eqb edge.scid id) refl ∙ was.limits id max;
+          extra = λ id. own p said same was id (eqb edge.scid id) refl ∙ sym (list_any-append (has_key id p) sayings.leaving (edge ∷ []));
           leaving = rw (was.leaving, pushed_is) (sym (edges_last (λ d. d.from) points sayings.leaving edge p true same));
           entering = was.entering;
         })
         (λ p said apart was. record {
           silent = was.silent;
           limits = was.limits;
+          extra = λ id. was.extra id ∙ other p apart id (eqb edge.scid id) refl ∙ sym (list_any-append (has_key id p) sayings.leaving (edge ∷ []));
           leaving = was.leaving ∙ sym (edges_last (λ d. d.from) points sayings.leaving edge p false apart);
           entering = was.entering;
         })
+      where
+        id_is : pushed.scid ≡ edge.scid
+        id_is = ap (λ (e : Edge). e.scid) pushed_is
+
+        terms_now : (said : Said) (id : ℕ) → terms_of (heard said (Leaving pushed)).terms id ≡ cond (eqb edge.scid id) (extra_now said edge.scid) (terms_of said.terms id)
+        terms_now said id =
+            ap (λ n. terms_of (with_terms said.terms n (as_extra (terms_of said.terms n))) id) id_is ∙ terms_are edge.scid (extra_now said edge.scid) id said.terms
+
+        unlimited : (said : Said) (id max : ℕ) (c : Bool) → eqb edge.scid id ≡ c
+            → most_in (heard said (Leaving pushed)).terms id max ≡ most_in said.terms id max
+        unlimited said id max c is = ap (λ terms. least_of terms.limit max) (terms_now said id) ∙ by c is
+          where
+            by : (c : Bool) → eqb edge.scid id ≡ c
+                → least_of (cond (eqb edge.scid id) (extra_now said edge.scid) (terms_of said.terms id)).limit max ≡ most_in said.terms id max
+            by true is = rw is (ap (λ n. most_in said.terms n max) (eqb-true edge.scid id is))
+            by false is = rw is refl
+
+        own : (p : Point) (said : Said) → is_point p edge.from ≡ true → IsSaid sayings points p said → (id : ℕ) (c : Bool) → eqb edge.scid id ≡ c
+            → is_extra_in (heard said (Leaving pushed)).terms id
+            ≡ (list_any (has_key id p) sayings.leaving || ((eqb edge.scid id && is_point p edge.from) || false))
+        own p said same was id c is = ap (λ terms. terms.is_extra) (terms_now said id) ∙ by c is
+          where
+            by : (c : Bool) → eqb edge.scid id ≡ c
+                → (cond (eqb edge.scid id) (extra_now said edge.scid) (terms_of said.terms id)).is_extra
+                ≡ (list_any (has_key id p) sayings.leaving || ((eqb edge.scid id && is_point p edge.from) || false))
+            by true is = rw (is, same) (sym (or_true (list_any (has_key id p) sayings.leaving)))
+            by false is = rw is (was.extra id ∙ sym (or_false (list_any (has_key id p) sayings.leaving)))
+
+        other : (p : Point) → is_point p edge.from ≡ false → (id : ℕ) (c : Bool) → eqb edge.scid id ≡ c
+            → list_any (has_key id p) sayings.leaving
+            ≡ (list_any (has_key id p) sayings.leaving || ((eqb edge.scid id && is_point p edge.from) || false))
+        other p apart id true is = rw (is, apart) (sym (or_false (list_any (has_key id p) sayings.leaving)))
+        other p apart id false is = rw is (sym (or_false (list_any (has_key id p) sayings.leaving)))
 
     pub entering_more : AreHeard points edge.to (Entering pushed) old new → AreSaid (record sayings { entering = sayings.entering ++ edge ∷ [] }) points new
     entering_more changed = step edge.to (Entering pushed) (record sayings { entering = sayings.entering ++ edge ∷ [] }) changed
         (λ p said same was. record {
           silent = was.silent;
           limits = was.limits;
+          extra = was.extra;
           leaving = was.leaving;
           entering = rw (was.entering, pushed_is) (sym (edges_last (λ d. d.to) points sayings.entering edge p true same));
         })
         (λ p said apart was. record {
           silent = was.silent;
           limits = was.limits;
+          extra = was.extra;
           leaving = was.leaving;
           entering = was.entering ∙ sym (edges_last (λ d. d.to) points sayings.entering edge p false apart);
         })
 
 -- ---- extra edges
-
--- ids out of a node
-ids_at : (points : List Point) (edges : List PointEdge) (id : ℕ) (from : Point)
-    → has_id id (edges_with (λ e. e.from) points edges from) ≡ list_any (has_key id from) edges
-ids_at points [] id from = refl
-ids_at points (e ∷ es) id from = by (ids_at points es id from) (is_point from e.from) refl (eqb e.scid id) refl
-  where
-    left : List PointEdge
-    left = filter (λ d. is_point from d.from) es
-
-    by : has_id id (map (numbered_in points) left) ≡ list_any (has_key id from) es
-        → (b : Bool) → is_point from e.from ≡ b → (c : Bool) → eqb e.scid id ≡ c
-        → has_id id (map (numbered_in points) (cond (is_point from e.from) (e ∷ left) left))
-        ≡ ((eqb e.scid id && is_point from e.from) || list_any (has_key id from) es)
-    by rest true b true c = rw (b, c) refl
-    by rest true b false c = rw (b, c) rest
-    by rest false b true c = rw (b, c) rest
-    by rest false b false c = rw (b, c) rest
 
 module _ (overlay : OverlayParts) (edge : PointEdge) where
   named_limited : (edges : List PointEdge) → list_any (has_key edge.scid edge.from) (map (limited overlay.limits) edges) ≡ is_named edges edge
@@ -197,10 +245,10 @@ module _ (overlay : OverlayParts) (edge : PointEdge) where
 
   -- an extra edge out of the node has the id if one has the key
   pub named_said : (points : List Point) (t : Touched) → AreSaid (sayings_of overlay) points t → IsNumbered points edge.from
-      → has_id edge.scid (said_of t (number_of points edge.from)).leaving ≡ is_named overlay.extra edge
+      → is_extra_in (said_of t (number_of points edge.from)).terms edge.scid ≡ is_named overlay.extra edge
   named_said points t all there =
-      ap (has_id edge.scid) (all (number_of points edge.from) edge.from (slice_number points edge.from there)).leaving
-      ∙ ids_at points (extra_over overlay) edge.scid edge.from ∙ named_limited (firsts overlay.extra) ∙ firsts_name edge [] overlay.extra
+      (all (number_of points edge.from) edge.from (slice_number points edge.from there)).extra edge.scid
+      ∙ named_limited (firsts overlay.extra) ∙ firsts_name edge [] overlay.extra
 
   -- with one more
   abbrev pub wider : OverlayParts
@@ -229,4 +277,4 @@ pub nothing_said : (points : List Point) (t : Touched) → ((number : ℕ) → p
     → AreSaid (record { silent = []; limits = []; leaving = []; entering = [] }) points t
 nothing_said points t none n p at =
     let bare : said_of t n ≡ nothing_of n = ap (λ k. unwrap_or (at_place t.nodes k) (nothing_of n)) (none n) in
-    rw bare (record { silent = refl; limits = λ id max. refl; leaving = refl; entering = refl })
+    rw bare (record { silent = refl; limits = λ id max. refl; extra = λ id. refl; leaving = refl; entering = refl })

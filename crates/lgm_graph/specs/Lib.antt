@@ -6,6 +6,5 @@ pub mod Graph
 pub mod Places
 pub mod Overlay
 pub mod Network
-pub mod Pending
 pub mod Route
 pub mod inner

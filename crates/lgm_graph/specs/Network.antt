@@ -1,8 +1,5 @@
 -- A map with its view, while there is one.
-use Rattle.std.specs.Prelude.{◌≡◌, ℕ, ◌+◌, ◌*◌, ◌<◌, ◌≤◌, List, [], ◌∷◌, Option, Some, None, length, min, IfSome}
-use Rattle.std.specs.Option.{option_or}
-use Rattle.lgm_store.specs.declared.op.Op.{Op}
-use Rattle.lgm_store.specs.History.{absorbed}
+use Rattle.std.specs.Prelude.{◌≡◌, ℕ, ◌+◌, ◌*◌, ◌<◌, ◌≤◌, List, Option, Some, None, length, min, IfSome}
 use Rattle.lgm_store.specs.Rows.{Rows}
 use Rattle.lgm_graph.specs.Graph.{Graph, IsGraphOf}
 
@@ -31,17 +28,6 @@ abbrev pub GoesOn : Rows → Option Graph → Option Graph → Type 0
 GoesOn rows None graph = graph ≡ None
 GoesOn rows (Some old) None = most_points rows < length old.points
 GoesOn rows (Some old) (Some new) = (length old.points ≤ most_points rows) × (length new.points ≤ length old.points + 2)
-
--- so after each of these operations
-abbrev pub GoesOnOver : Rows → Option Graph → List Op → Option Graph → Type 0
-GoesOnOver rows graph [] after = after ≡ graph
-GoesOnOver rows graph (op ∷ others) after =
-    (next : Option Graph) × GoesOn rows graph next × GoesOnOver (absorbed rows op) next others after
-
--- a network has the view of one that lagged behind it, if that is left after what was due there, and else its own
-abbrev pub TakesView : NetworkState → List Op → Option Graph → Option Graph → Type 0
-TakesView lagging due own after =
-    (view : Option Graph) × GoesOnOver lagging.rows lagging.graph due view × (after ≡ option_or view own)
 
 -- a view that numbers few enough points for the rows stays
 abbrev pub KeepsView : NetworkState → Option Graph → Type 0

@@ -2,10 +2,9 @@
 //!
 //! A [`View`] numbers the nodes of a map, and has the edges into and out of each node as consecutive lists, as a search
 //! for routes reads them. It is built from a map, or maintained while operations change the map. A node that requires
-//! unknown features takes no payments. A [`Network`] is a map with its view as one value, and a [`Replica`] one that is
-//! behind another. An [`Overlay`] is what a payer knows beside the map, and an [`OverlayView`] the view over it. A
-//! [`RoutingGraph`] is what a search reads. [`Estimates`] are what a payer has learnt of edges. A [`Route`] is a walk over
-//! edges with what each [`Hop`] forwards.
+//! unknown features takes no payments. A [`Network`] is a map with its view as one value. An [`Overlay`] is what a payer
+//! knows beside the map, and an [`OverlayView`] the view over it. A [`RoutingGraph`] is what a search reads. [`Estimates`]
+//! are what a payer has learnt of edges. A [`Route`] is a walk over edges with what each [`Hop`] forwards.
 #![tactic(auto)]
 
 mod edge;
@@ -22,8 +21,6 @@ mod nodes;
 mod overlay;
 mod overlay_laws;
 mod overlay_view;
-mod pending;
-mod replica;
 mod route;
 mod routing_graph;
 mod view;
@@ -38,8 +35,6 @@ pub use network::Network;
 pub use overlay::{ExtraEdge, Limit, Overlay};
 pub use overlay_laws::overlays_are_lawful;
 pub use overlay_view::OverlayView;
-pub use pending::{push_pending, reserve_pending};
-pub use replica::Replica;
 pub use route::{Hop, Route};
 pub use routing_graph::RoutingGraph;
 pub use view::{MAX_CHANNELS, View};

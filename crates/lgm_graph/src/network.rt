@@ -1,16 +1,15 @@
 //! A map with its view.
 
 ghost use Rattle.std.specs.Prelude.{◌≡◌, ◌*◌, ◌≤◌, None, length, IfOk, IfSome, IsSome, OnOk, OnErr};
-ghost use Rattle.std.specs.Option.{option_copied, option_or};
+ghost use Rattle.std.specs.Option.{option_copied};
 ghost use Rattle.lgm_store.specs.Rows.{empty};
-ghost use Rattle.lgm_store.specs.Admission.{admitted, admitted_close, Offers};
+ghost use Rattle.lgm_store.specs.Admission.{admitted, Offers};
 ghost use Rattle.lgm_store.specs.History.{absorbed};
 ghost use Rattle.lgm_graph.specs.Network.{GoesOn, IsViewed, KeepsView, most_points};
 
 use crate::known::Known;
-use crate::view::{MAX_CHANNELS, View};
+use crate::view::View;
 use lgm_check::Refusal;
-use lgm_gossip::Scid;
 use lgm_store::{CheckedMessage, Hint, Map, Op, Seed};
 use std::alloc::{AllocError, Global};
 use std::marker::Model;
@@ -107,7 +106,7 @@ impl Network {
     /// Builds the view, unless there is one that numbers few enough points for the map ([`Network::absorb`]). The only error
     /// is out of memory, which leaves all unchanged.
     pub fn make_view(&mut self, alloc: Global) -> Result<(), AllocError>
-        requires { length self.old.rows.channels ≤ MAX_CHANNELS }
+        requires { length self.old.rows.channels ≤ 2000000000 }
         ensures rows { self.new.rows ≡ self.old.rows }
         ensures known { self.new.known ≡ self.old.known }
         ensures made { OnOk result (IsSome self.new.graph) }
@@ -125,18 +124,6 @@ impl Network {
         }
         self.parts.view = Some(View::of(alloc, &self.parts.map, &self.parts.known)?);
         Ok(())
-    }
-
-    /// Moves its view, if there is one, to a network with the same rows.
-    pub fn give_view(&mut self, other: &mut Network)
-        requires rows { other.old.rows ≡ self.old.rows }
-        requires known { other.old.known ≡ self.old.known }
-        ensures own { self.new ≡ record self.old { graph = None } }
-        ensures other { other.new ≡ record other.old { graph = option_or self.old.graph other.old.graph } }
-    {
-        if let Some(view) = self.parts.view.take() {
-            other.parts.view = Some(view);
-        }
     }
 }
 
@@ -162,20 +149,9 @@ impl Network {
     }
 
     /// Admits a checked message, and applies its operation, which is returned. Without a view, one lookup suffices for
-    /// both.
+    /// both. An update's channel is looked for at a hint first, which is faster if it is right.
     ///
     /// A refusal or out of memory leaves all unchanged. A refused message is refused even if memory is short.
-    pub fn offer(&mut self, alloc: Global, message: CheckedMessage) -> Result<Op, Refusal>
-        ensures admission { Offers result (admitted self.old.rows message) }
-        ensures accepted { IfOk result (λ op. self.new.rows ≡ absorbed self.old.rows op) }
-        ensures known { self.new.known ≡ self.old.known }
-        ensures view { OnOk result (GoesOn self.old.rows self.old.graph self.new.graph) }
-        ensures refused { OnErr result (self.new ≡ self.old) }
-    {
-        self.offer_at(alloc, message, Hint::none())
-    }
-
-    /// Like [`Network::offer`], but looks for an update's channel at a hint first, which is faster if it is right.
     #[inline(always)]
     pub fn offer_at(
         &mut self,
@@ -195,19 +171,5 @@ impl Network {
         let op = self.parts.map.admit_checked(alloc, message)?;
         self.absorb(&op)?;
         Ok(op)
-    }
-
-    /// Closes a channel, and returns the operation. A refusal, which is 11 `unknown-channel`, or out of memory leaves
-    /// all unchanged.
-    pub fn offer_close(&mut self, scid: Scid) -> Result<Op, Refusal>
-        ensures admission { Offers result (admitted_close self.old.rows scid) }
-        ensures accepted { IfOk result (λ op. self.new.rows ≡ absorbed self.old.rows op) }
-        ensures known { self.new.known ≡ self.old.known }
-        ensures view { OnOk result (GoesOn self.old.rows self.old.graph self.new.graph) }
-        ensures refused { OnErr result (self.new ≡ self.old) }
-    {
-        let close = self.parts.map.admit_close(scid)?;
-        self.absorb(&close)?;
-        Ok(close)
     }
 }

@@ -10,6 +10,7 @@ ghost use Rattle.lgm_store.specs.Laws.{AreEnded};
 ghost use Rattle.lgm_graph.specs.Graph.{AreListed, IsGraphOf, point_edges, takes_at, edges_into, edges_leaving};
 ghost use Rattle.lgm_graph.specs.Overlay.{overlaid_edges};
 
+mod edge_terms;
 mod lists;
 mod points;
 mod saying;

@@ -2,17 +2,58 @@
 use Rattle.std.specs.Prelude.{◌≡◌, ◌≢◌, ◌⊎◌, ℕ, suc, ◌<◌, ◌==◌, Bool, true, false, ◌||◌, min, List, [], ◌∷◌, ◌++◌, map}
 use Rattle.std.specs.Prelude.{fold, length, Option, Some, None, unwrap_or, Contains, slice_get, slice_index_or, ◌^◌, if◌then◌else◌}
 use Rattle.std.specs.List.{list_any, filter_map}
+use Rattle.std.specs.Map.{lookup}
+use Rattle.std.specs.Ordering.{nat_cmp}
+use Rattle.std.specs.BTreeMap.{is_at, insert_entry}
 use Rattle.lgm_wire.specs.declared.point.Point.{Point}
 use Rattle.lgm_store.specs.Rows.{is_point}
 use Rattle.lgm_graph.specs.declared.edge.Edge.{Edge}
 use Rattle.lgm_graph.specs.declared.overlay.Limit.{Limit}
+use Rattle.lgm_graph.specs.declared.overlay_view.edge_terms.EdgeTerms.{EdgeTerms}
 use Rattle.lgm_graph.specs.declared.overlay_view.lists.Edges.{Edges}
 use Rattle.lgm_graph.specs.declared.overlay_view.saying.Saying.{Saying}
 use Rattle.lgm_graph.specs.declared.overlay_view.saying.Saying.TheVariants.{Silent, Limited, Leaving, Entering}
 use Rattle.lgm_graph.specs.Edges.{PointEdge}
 use Rattle.lgm_graph.specs.Graph.{Graph, GraphNode, bare_node, node_at, edges_leaving, edges_with}
 use Rattle.lgm_graph.specs.Places.{at_place, used_places}
-use Rattle.lgm_graph.specs.Overlay.{OverlayParts, limited, firsts, most_of}
+use Rattle.lgm_graph.specs.Overlay.{OverlayParts, has_key, limited, firsts, most_of}
+
+-- ---- what an overlay says of the edges out of a node
+
+-- nothing is said of the edges with an id
+abbrev pub no_terms : EdgeTerms
+no_terms = record { limit = None; is_extra = false }
+
+-- an amount, or the limit if that is less
+abbrev pub least_of : Option ℕ → ℕ → ℕ
+least_of None max = max
+least_of (Some most) max = min max most
+
+-- what is said with one limit more, and with an extra edge
+abbrev pub with_limit : ℕ → EdgeTerms → EdgeTerms
+with_limit most terms = record { limit = Some (least_of terms.limit most); is_extra = terms.is_extra }
+
+abbrev pub as_extra : EdgeTerms → EdgeTerms
+as_extra terms = record { limit = terms.limit; is_extra = true }
+
+-- ids, each with what is said of the edges that have it
+abbrev pub Terms : Type 0
+Terms = List (ℕ × EdgeTerms)
+
+abbrev pub terms_of : Terms → ℕ → EdgeTerms
+terms_of terms id = unwrap_or (lookup (is_at (nat_cmp id)) terms) no_terms
+
+-- this is said of an id, whatever was said
+abbrev pub with_terms : Terms → ℕ → EdgeTerms → Terms
+with_terms terms id own = insert_entry nat_cmp terms id own
+
+-- the least of an amount and the limits for the id
+abbrev pub most_in : Terms → ℕ → ℕ → ℕ
+most_in terms id max = least_of (terms_of terms id).limit max
+
+-- an extra edge has the id
+abbrev pub is_extra_in : Terms → ℕ → Bool
+is_extra_in terms id = (terms_of terms id).is_extra
 
 -- ---- what an overlay says of a node
 
@@ -20,35 +61,31 @@ pub record Said : Type 0 where
   pub node : ℕ
   -- whether it is silent
   pub silent : Bool
-  -- the limits of edges out of it
-  pub limits : List Limit
+  -- what is said of the edges out of it
+  pub terms : Terms
   -- the extra edges out of it, and into it
   pub leaving : List Edge
   pub entering : List Edge
 
 -- nothing is said of a node
 abbrev pub nothing_of : ℕ → Said
-nothing_of node = record { node = node; silent = false; limits = []; leaving = []; entering = [] }
-
--- one of the edges has the id
-abbrev pub has_id : ℕ → List Edge → Bool
-has_id id edges = list_any (λ edge. edge.scid == id) edges
-
--- the least of an amount and the limits for the id
-abbrev pub most_in : List Limit → ℕ → ℕ → ℕ
-most_in limits id max = fold (λ most limit. if limit.scid == id then min most limit.most else most) max limits
+nothing_of node = record { node = node; silent = false; terms = []; leaving = []; entering = [] }
 
 -- an edge of the map out of the node, over the overlay, if it is used
 abbrev pub laid_at : Said → Edge → Option Edge
 laid_at said edge =
-    if said.silent || has_id edge.scid said.leaving then None
-    else Some (record edge { max = most_in said.limits edge.scid edge.max })
+    if said.silent || is_extra_in said.terms edge.scid then None
+    else Some (record edge { max = most_in said.terms edge.scid edge.max })
 
 -- and what is said after one thing more
 abbrev pub heard : Said → Saying → Said
 heard said Silent = record said { silent = true }
-heard said (Limited limit) = record said { limits = said.limits ++ limit ∷ [] }
-heard said (Leaving edge) = record said { leaving = said.leaving ++ edge ∷ [] }
+heard said (Limited limit) =
+    record said { terms = with_terms said.terms limit.scid (with_limit limit.most (terms_of said.terms limit.scid)) }
+heard said (Leaving edge) = record said {
+  leaving = said.leaving ++ edge ∷ [];
+  terms = with_terms said.terms edge.scid (as_extra (terms_of said.terms edge.scid));
+}
 heard said (Entering edge) = record said { entering = said.entering ++ edge ∷ [] }
 
 -- ---- the nodes that an overlay touches
@@ -97,7 +134,8 @@ sayings_of overlay = record {
 -- of it, what is said of a point
 pub record IsSaid (sayings : Sayings) (points : List Point) (point : Point) (said : Said) : Type 0 where
   pub silent : said.silent ≡ list_any (is_point point) sayings.silent
-  pub limits : (id max : ℕ) → most_in said.limits id max ≡ most_of sayings.limits id point max
+  pub limits : (id max : ℕ) → most_in said.terms id max ≡ most_of sayings.limits id point max
+  pub extra : (id : ℕ) → is_extra_in said.terms id ≡ list_any (has_key id point) sayings.leaving
   pub leaving : said.leaving ≡ edges_with (λ edge. edge.from) points sayings.leaving point
   pub entering : said.entering ≡ edges_with (λ edge. edge.to) points sayings.entering point
 

@@ -1,9 +1,10 @@
 //! What an overlay says of a node.
 
-ghost use Rattle.std.specs.Prelude.{◌≡◌, ◌==◌, ◌||◌, false, fold, OnOk};
-ghost use Rattle.lgm_graph.specs.declared.overlay_view.saying.Saying.TheVariants.{Limited};
-ghost use Rattle.lgm_graph.specs.inner.Overlaying.{nothing_of, has_id, most_in, laid_at, heard};
+ghost use Rattle.std.specs.Prelude.{◌≡◌, OnOk};
+ghost use Rattle.lgm_graph.specs.declared.overlay_view.saying.Saying.TheVariants.{Limited, Leaving};
+ghost use Rattle.lgm_graph.specs.inner.Overlaying.{nothing_of, is_extra_in, most_in, laid_at, heard};
 
+use super::edge_terms::TermsById;
 use super::saying::Saying;
 use crate::edge::Edge;
 use crate::overlay::Limit;
@@ -18,10 +19,8 @@ pub(crate) struct TouchedNode {
     node: u32,
     /// Whether it is silent.
     silent: bool,
-    /// The limits of edges out of it.
-    limits: Vec<Limit>,
-    /// Their ids, which are compared several at once.
-    ids: Vec<Scid>,
+    /// What is said of the edges out of it, by their ids.
+    terms: TermsById,
     /// The extra edges out of it.
     leaving: Vec<Edge>,
     /// The extra edges into it.
@@ -29,7 +28,6 @@ pub(crate) struct TouchedNode {
 }
 
 impl Model for TouchedNode {
-    ghost use Rattle.std.specs.Prelude.{◌≡◌, map};
     ghost use Rattle.lgm_graph.specs.inner.Overlaying.{Said};
 
     ghost Value = { Said };
@@ -37,12 +35,10 @@ impl Model for TouchedNode {
     ghost view = { λ t. record {
       node = t.node;
       silent = t.silent;
-      limits = t.limits.items;
+      terms = t.terms;
       leaving = t.leaving.items;
       entering = t.entering.items;
     } };
-
-    ghost invariant = { λ t. t.ids.items ≡ map (λ limit. limit.scid) t.limits.items };
 }
 
 impl TouchedNode {
@@ -53,8 +49,7 @@ impl TouchedNode {
         TouchedNode {
             node,
             silent: false,
-            limits: Vec::new(alloc),
-            ids: Vec::new(alloc),
+            terms: TermsById::new(alloc),
             leaving: Vec::new(alloc),
             entering: Vec::new(alloc),
         }
@@ -89,7 +84,7 @@ impl TouchedNode {
         match saying {
             Saying::Silent => self.silent = true,
             Saying::Limited(limit) => return self.limit(limit),
-            Saying::Leaving(edge) => self.leaving.push(edge)?,
+            Saying::Leaving(edge) => return self.leave(edge),
             Saying::Entering(edge) => self.entering.push(edge)?,
         }
         Ok(())
@@ -100,54 +95,46 @@ impl TouchedNode {
         ensures limited { OnOk result (self.new ≡ heard self.old (Limited limit)) }
         ensures node { self.new.node ≡ self.old.node }
     {
-        self.ids.reserve(1)?;
-        let scid = limit.scid;
-        self.limits.push(limit)?;
-        self.ids.push_reserved(scid);
+        let own = self.terms.get(limit.scid);
+        self.terms.set(limit.scid, own.limited(limit.most))
+    }
+
+    /// Takes in an extra edge out of it.
+    fn leave(&mut self, edge: Edge) -> Result<(), AllocError>
+        ensures left { OnOk result (self.new ≡ heard self.old (Leaving edge)) }
+        ensures node { self.new.node ≡ self.old.node }
+    {
+        let own = self.terms.get(edge.scid);
+        self.terms.set(edge.scid, own.extra())?;
+        self.leaving.push(edge)?;
         Ok(())
     }
 
     /// What an edge out of it carries at most.
     pub(super) fn most(&self, edge: &Edge) -> u64
-        ensures { result ≡ most_in self.now.limits edge.now.scid edge.now.max }
+        ensures { result ≡ most_in self.now.terms edge.now.scid edge.now.max }
     {
-        let scid = edge.scid;
-        if !has_scid(&self.ids, scid) {
-            return edge.max;
-        }
-        self.limits.iter().fold(edge.max, |most, limit| {
-            if limit.scid == scid {
-                most.min(limit.most)
-            } else {
-                most
-            }
-        })
+        self.terms.get(edge.scid).most(edge.max)
     }
 
     /// Whether an extra edge out of it has an id.
     pub(super) fn names(&self, scid: Scid) -> bool
-        ensures { result ≡ has_id scid self.now.leaving }
+        ensures { result ≡ is_extra_in self.now.terms scid }
     {
-        self.leaving.iter().any(|extra| extra.scid == scid)
+        self.terms.get(scid).is_extra
     }
 
     /// An edge of the map out of it, over the overlay, if it is used.
     pub(super) fn lay(&self, edge: &Edge) -> Option<Edge>
         ensures { result ≡ laid_at self.now edge.now }
     {
-        if self.silent || self.names(edge.scid) {
+        let terms = self.terms.get(edge.scid);
+        if self.silent || terms.is_extra {
             return None;
         }
         Some(Edge {
-            max: self.most(edge),
+            max: terms.most(edge.max),
             ..*edge
         })
     }
-}
-
-/// Whether one of the ids is this one. It looks at all of them, since so the compiler compares several at once.
-fn has_scid(ids: &[Scid], scid: Scid) -> bool
-    ensures { result ≡ fold (λ found id. found || id == scid) false ids.now }
-{
-    ids.iter().fold(false, |found, id| found | (*id == scid))
 }

@@ -6,7 +6,7 @@ ghost use Rattle.std.specs.Option.{option_copied};
 ghost use Rattle.lgm_graph.specs.Graph.{edges_leaving};
 ghost use Rattle.lgm_graph.specs.inner.Overlaying.{Said, Touched, ArePlaced, IsTouchedMore, LeadsTo, IsReached, AreReached, heard};
 ghost use Rattle.lgm_graph.specs.Places.{at_place};
-ghost use Rattle.lgm_graph.specs.inner.Overlaying.{place_of, said_of, laid_by, most_in, has_id};
+ghost use Rattle.lgm_graph.specs.inner.Overlaying.{place_of, said_of, laid_by, most_in, is_extra_in};
 
 use super::saying::Saying;
 use super::touched_node::TouchedNode;
@@ -96,7 +96,7 @@ impl TouchedNodes {
 
     /// What an edge carries at most.
     pub(super) fn most(&self, edge: &Edge) -> u64
-        ensures { result ≡ most_in (said_of self.now edge.now.from).limits edge.now.scid edge.now.max }
+        ensures { result ≡ most_in (said_of self.now edge.now.from).terms edge.now.scid edge.now.max }
     {
         let from = edge.from;
         match self.get(from) {
@@ -107,7 +107,7 @@ impl TouchedNodes {
 
     /// Whether an extra edge out of a node has an id.
     pub(super) fn names(&self, number: u32, scid: Scid) -> bool
-        ensures { result ≡ has_id scid (said_of self.now number).leaving }
+        ensures { result ≡ is_extra_in (said_of self.now number).terms scid }
     {
         match self.get(number) {
             Some(node) => node.names(scid),

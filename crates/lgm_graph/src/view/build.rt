@@ -13,7 +13,7 @@ ghost use Rattle.lgm_graph.specs.inner.Sound.{ShowsIn};
 ghost use Rattle.lgm_graph.specs.inner.Walk.{AreEdgesOf, HasNumbered, KeepsNumbers, edges_of_channel};
 
 use super::number_cache::NumberCache;
-use super::{MAX_CHANNELS, Parts, View};
+use super::{Parts, View};
 use crate::edge::{Edge, edge_on};
 use crate::known::Known;
 use crate::nodes::{Nodes, takes_payments};
@@ -24,7 +24,7 @@ use std::alloc::{AllocError, Global};
 impl View {
     /// The view of a map, with the known feature bits, which are copied. The only error is out of memory.
     pub fn of(alloc: Global, map: &Map, known: &Known) -> Result<View, AllocError>
-        requires { length map.now.channels ≤ MAX_CHANNELS }
+        requires { length map.now.channels ≤ 2000000000 }
         ensures beside { IfOk result (IsGraphOf map.now) }
         ensures known { IfOk result (λ view. view.known ≡ known.now) }
         ensures few { IfOk result (λ view. length view.points ≤ 2 * length map.now.channels) }

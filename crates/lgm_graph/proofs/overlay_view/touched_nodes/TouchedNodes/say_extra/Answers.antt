@@ -3,7 +3,7 @@ use Rattle.lgm_graph.specs.declared.edge.Edge.{Edge}
 use Rattle.lgm_graph.specs.Edges.{PointEdge}
 use Rattle.lgm_graph.specs.Graph.{number_of, numbered_as, numbered_in}
 use Rattle.lgm_graph.specs.Overlay.{extra_edge, is_named, limited}
-use Rattle.lgm_graph.specs.inner.Overlaying.{Sayings, AreSaid, AreHeard, sayings_of, said_of, has_id, most_in}
+use Rattle.lgm_graph.specs.inner.Overlaying.{Sayings, AreSaid, AreHeard, sayings_of, said_of, is_extra_in, most_in}
 use Rattle.lgm_graph.proofs.SayingLaws.{slice_number, leaving_more, entering_more, named_said, extra_there, extra_new}
 use Rattle.lgm_graph.proofs.overlay_view.touched_nodes.TouchedNodes.say_extra.Goals as goal
 
@@ -15,7 +15,7 @@ returns-then-names-clause-said c = λ overlay all.
     let edge = extra_edge c.args.extra.now in
     let named : is_named overlay.extra edge ≡ true =
     sym (named_said overlay edge c.args.points.now c.args.self.now all c.requires.joined.0)
-    ∙ ap (λ n. has_id edge.scid (said_of c.args.self.now n).leaving) (sym c.number_of-from.ensures.number) ∙ sym c.names.ensures ∙ c.if-names.true in
+    ∙ ap (λ n. is_extra_in (said_of c.args.self.now n).terms edge.scid) (sym c.number_of-from.ensures.number) ∙ sym c.names.ensures ∙ c.if-names.true in
     subst (λ (extra : List PointEdge).
     AreSaid (record { silent = overlay.silent; limits = overlay.limits; leaving = extra; entering = extra }) c.args.points.now c.args.self.now)
     (sym (extra_there overlay edge named)) all
@@ -27,14 +27,14 @@ returns-clause-said c = λ overlay all.
     let from = c.number_of-from.ensures.number in
     let new : is_named overlay.extra edge ≡ false =
     sym (named_said overlay edge points c.args.self.now all c.requires.joined.0)
-    ∙ ap (λ n. has_id edge.scid (said_of c.args.self.now n).leaving) (sym from) ∙ sym c.names.ensures ∙ c.if-names.false in
+    ∙ ap (λ n. is_extra_in (said_of c.args.self.now n).terms edge.scid) (sym from) ∙ sym c.names.ensures ∙ c.if-names.false in
     let own = limited overlay.limits edge in
     let said = sayings_of overlay in
     let numbered : c.numbered-edge.result ≡ numbered_in points edge =
     c.numbered-edge.ensures ∙ ap (λ n. numbered_as edge n c.number_of-to.result) from
     ∙ ap (numbered_as edge (number_of points edge.from)) c.number_of-to.ensures.number in
     let most : c.most.result ≡ own.max =
-    c.most.ensures ∙ ap (λ (e : Edge). most_in (said_of c.args.self.now e.from).limits e.scid e.max) numbered
+    c.most.ensures ∙ ap (λ (e : Edge). most_in (said_of c.args.self.now e.from).terms e.scid e.max) numbered
     ∙ (all (number_of points edge.from) edge.from (slice_number points edge.from c.requires.joined.0)).limits edge.scid edge.max in
     let pushed = with_max c.numbered-edge.result c.most.result in
     let pushed_is : pushed ≡ numbered_in points own = ap (λ e. with_max e c.most.result) numbered ∙ ap (with_max (numbered_in points edge)) most in
