@@ -1,13 +1,13 @@
 //! Keys that operations touch.
 
-ghost use Rattle.std.specs.Prelude.{◌≡◌, ◌++◌, ◌∷◌, [], List, IfOk, OnOk, OnErr};
+ghost use Rattle.std.specs.Prelude.{◌≡◌, ◌++◌, ◌∷◌, [], List, OnOk, OnErr};
 ghost use Rattle.lgm_store.specs.declared.op.Op.{Op};
 ghost use Rattle.lgm_query.specs.Touched.{HasTouched};
 
 use lgm_gossip::{Point, Scid};
 use lgm_store::Op;
 use std::alloc::{AllocError, Global};
-use std::collections::{BTreeSet, VecDeque};
+use std::collections::BTreeSet;
 use std::marker::Model;
 
 /// The channels to which operations may add an announcement or an update, and the nodes to which they may add an
@@ -35,17 +35,6 @@ impl TouchedKeys {
             channels: BTreeSet::new(alloc),
             nodes: BTreeSet::new(alloc),
         }
-    }
-
-    /// The keys of these operations. The only error is out of memory.
-    pub fn of(alloc: Global, ops: &VecDeque<Op>) -> Result<TouchedKeys, AllocError>
-        ensures { IfOk result (λ changes. HasTouched ops.now.items changes) }
-    {
-        let mut changes = TouchedKeys::new(alloc);
-        for place in 0..ops.len() {
-            changes.touch(&ops[place])?;
-        }
-        Ok(changes)
     }
 
     /// Adds the keys of another operation. The only error is out of memory, which leaves them unchanged.
