@@ -8,8 +8,8 @@ use Rattle.lgm_store.proofs.Histories.{fold_from-push}
 use Rattle.lgm_graph.specs.Network.{NetworkState}
 use Rattle.lgm_timeline.specs.declared.follower.Follower.{Follower}
 use Rattle.lgm_timeline.specs.History.{Moment, moment, next_position, Log, end, between, rows_at, LeadsFrom, Follows, IsTrimmed}
-use Rattle.lgm_timeline.specs.inner.Follower.{moment_of}
-use Rattle.lgm_timeline.specs.inner.Past.{IsMarked, IsReached}
+use Rattle.lgm_timeline.specs.inner.Follower.{moment_of, IsReached}
+use Rattle.lgm_timeline.specs.inner.Past.{IsMarked}
 use Rattle.lgm_timeline.proofs.Logs.{between_none, between_all, between_push, trim_end, between_trim}
 
 -- a log goes on by these operations: where it leads from, it led from before, to the same rows and then by these
@@ -40,7 +40,7 @@ push_goes old new op base ops =
     }
 
 -- with an operation that was counted and not kept: it leads from nowhere
-pub skip_goes : (old new : Log) (more : List Op) → new.base ≡ next_position (end old) → new.ops ≡ [] → end old < 2 ^ 64 → GoesOn old new more
+pub skip_goes : (old new : Log) (more : List Op) → new.base ≡ next_position (end old) → new.ops ≡ [] → end old ≤ new.base → GoesOn old new more
 skip_goes old new more base ops few =
     let none : length new.ops ≡ 0 = ap length ops in
     let nowhere : (at : ℕ) → at ≤ end old → LeadsFrom new at → ⊥ = λ at within leads. omega (arith, leads.0, leads.1) in
@@ -81,9 +81,9 @@ follows_on old new more network next now goes is follows =
           ∙ ap (λ (rows : Rows). fold_from rows more) (follows.leads (goes.leads now.at within leads)) ∙ sym is.rows;
     }
 
--- a mark that is reached, or from whose network the log still leads
+-- the log still leads from a mark's network, unless it has come to the mark
 abbrev pub Lasts : Log → Log → ℕ → Follower → Type 0
-Lasts old new position mark = (LeadsFrom old mark.at → LeadsFrom new mark.at) ⊎ IsReached position mark
+Lasts old new position mark = LeadsFrom old mark.at → LeadsFrom new mark.at ⊎ IsReached position mark
 
 -- a mark goes on, with the same rows
 pub record MarkGoesOn (newest : Moment) (old new : Log) (position : ℕ) (mark : Follower) : Type 0 where
@@ -98,10 +98,8 @@ mark_on old new more network next position mark goes is lasts is_marked =
     let before = is_marked.before in
     let within = is_marked.within in
     let rows_are : Log → Rows = λ log. rows_at log (moment_of mark) position in
-    let due : LeadsFrom new mark.at ⊎ IsReached position mark = elim is_marked.due [
-      | inl leads ↦ elim lasts [ inl kept ↦ inl (kept leads) | inr reached ↦ inr reached ]
-      | inr reached ↦ inr reached
-    ] in
+    let due : LeadsFrom new mark.at ⊎ IsReached position mark =
+    elim is_marked.due [ inl leads ↦ lasts leads | inr reached ↦ inr reached ] in
     record {
       is_marked = record {
         follows = follows_on old new more network next (moment_of mark) goes is is_marked.follows;

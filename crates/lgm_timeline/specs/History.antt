@@ -3,7 +3,6 @@ use Rattle.std.specs.Prelude.{◌≡◌, ℕ, ◌+◌, ◌-◌, ◌^◌, ◌<◌
 use Rattle.lgm_store.specs.declared.op.Op.{Op}
 use Rattle.lgm_store.specs.Rows.{Rows}
 use Rattle.lgm_store.specs.History.{absorbed, fold_from}
-use Rattle.lgm_graph.specs.declared.view.TheConstants.{MAX_CHANNELS}
 use Rattle.lgm_graph.specs.Network.{NetworkState, most_points}
 
 -- a map with the known feature bits of nodes, and how many operations it has accepted: its position
@@ -73,4 +72,4 @@ pub record HasView (network : NetworkState) : Type 0 where
 
 -- it has its view, unless it has too many channels
 abbrev pub IsReady : NetworkState → Type 0
-IsReady network = length network.rows.channels ≤ MAX_CHANNELS → HasView network
+IsReady network = length network.rows.channels ≤ 2000000000 → HasView network

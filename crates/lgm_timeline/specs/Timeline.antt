@@ -1,9 +1,10 @@
 -- A map that goes on, as its owner sees it.
-use Rattle.std.specs.Prelude.{◌≡◌, ◌⊎◌, ℕ, Bool, Result, Ok, Err}
+use Rattle.std.specs.Prelude.{◌≡◌, ◌⊎◌, ℕ, Bool, Option, Result, Ok, Err}
 use Rattle.lgm_check.specs.declared.refusal.Refusal.{Refusal}
 use Rattle.lgm_check.specs.declared.refusal.Refusal.TheVariants as refusals
 use Rattle.lgm_store.specs.declared.op.Op.{Op}
 use Rattle.lgm_store.specs.Rows.{Rows}
+use Rattle.lgm_graph.specs.Graph.{Graph}
 use Rattle.lgm_graph.specs.Network.{NetworkState}
 use Rattle.lgm_timeline.specs.History.{Moment, moment, behind}
 
@@ -12,10 +13,11 @@ pub record TimelineState : Type 0 where
   pub network : NetworkState
   -- how many operations it has accepted
   pub version : ℕ
-  -- the rows at the mark, which are empty before the first mark
+  -- the rows at the mark
   pub marked : Rows
-  -- whether the network that stays at the mark has come there
+  -- whether the network that stays at the mark has come there, and the graph of its view, if there is one
   pub is_reached : Bool
+  pub graph_at_mark : Option Graph
   -- how many operations are kept
   pub kept : ℕ
 

@@ -1,8 +1,8 @@
 //! Networks at a position.
 
-ghost use Rattle.std.specs.Prelude.{◌≡◌, ℕ, ◌<◌, ◌≤◌, IfOk, OnOk};
+ghost use Rattle.std.specs.Prelude.{◌≡◌, ℕ, ◌<◌, ◌≤◌, IfOk, IsTrue, OnOk};
 ghost use Rattle.lgm_timeline.specs.History.{end, moment, rows_at};
-ghost use Rattle.lgm_timeline.specs.inner.Follower.{moment_of};
+ghost use Rattle.lgm_timeline.specs.inner.Follower.{moment_of, IsReached};
 
 use crate::op_log::OpLog;
 use lgm_gossip::Scid;
@@ -26,6 +26,14 @@ impl Follower {
             network: network.copy(alloc)?,
             at,
         })
+    }
+
+    /// Whether it has come to a position, and has no channels. Nobody keeps the operations behind that one for it: a copy of
+    /// the map that they make takes no longer.
+    pub(crate) fn starts_at(&self, position: u64) -> bool
+        ensures { IsTrue result → IsReached position self.now }
+    {
+        self.at == position && self.network.map().count() == 0
     }
 
     /// Reads the rows of the channels that the next operations update, once for each [`ROWS_TOGETHER`] of them. No answer

@@ -30,12 +30,16 @@ impl Model for OpLog {
     ghost invariant = { λ l. l.base + length l.ops.items < 2 ^ 64 };
 }
 
-/// Removes the first operations. The rows of some are read together, since each loses an owner.
+/// Of so many operations that were applied last, the processor's cache still has the rows.
+const CACHED: usize = 4096;
+
+/// Removes the first operations. If they are many, the rows of some are read together, since each loses an owner.
 fn forget(ops: &mut VecDeque<Op>, count: usize)
     ensures { ops.new.items ≡ drop count ops.old.items }
 {
+    let many = count > CACHED;
     for place in 0..count {
-        if place % ROWS_TOGETHER == 0 {
+        if many && place % ROWS_TOGETHER == 0 {
             for op in ops.iter().take(ROWS_TOGETHER) {
                 op.prefetch();
             }
@@ -121,6 +125,7 @@ impl OpLog {
     /// Counts an operation that isn't kept, nor are those before it.
     pub(crate) fn skip(&mut self)
         ensures base { self.new.base ≡ next_position (end self.old) }
+        ensures further { end self.old ≤ self.new.base }
         ensures ops { self.new.ops ≡ [] }
     {
         self.base = self.end().saturating_add(1);
@@ -144,7 +149,7 @@ impl OpLog {
         Ok(keys)
     }
 
-    /// Forgets the operations before a position.
+    /// Forgets the operations before a position, and frees their room if none is left.
     pub(crate) fn trim(&mut self, position: u64)
         ensures trimmed { IsTrimmed self.old self.new }
         ensures until { (kept : ℕ) → self.old.base ≤ kept → position ≤ kept → self.new.base ≤ kept }
@@ -154,6 +159,9 @@ impl OpLog {
         if self.base < position {
             forget(&mut self.ops, (position - self.base) as usize);
             self.base = position;
+        }
+        if self.ops.is_empty() {
+            self.ops.shrink_to_fit();
         }
     }
 }

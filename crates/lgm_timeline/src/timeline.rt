@@ -1,23 +1,23 @@
 //! Maps that go on.
 
-ghost use Rattle.std.specs.Prelude.{◌≡◌, ◌≤◌, IsTrue, MatchOption, length, IfOk, IfErr, OnOk, OnErr};
-ghost use Rattle.lgm_store.specs.Rows.{empty};
+ghost use Rattle.std.specs.Prelude.{◌≡◌, ◌≤◌, IsSome, IsTrue, length, IfOk, IfErr, IfSome, OnOk, OnErr};
 ghost use Rattle.lgm_store.specs.Admission.{admitted};
-ghost use Rattle.lgm_graph.specs.declared.view.TheConstants.{MAX_CHANNELS};
+ghost use Rattle.lgm_graph.specs.Network.{most_points};
 ghost use Rattle.lgm_timeline.specs.History.{behind, most_kept, HasView};
 ghost use Rattle.lgm_timeline.specs.Timeline.{newest, Advances, RefusesOrRunsOut};
 
 use crate::edition::Edition;
 use crate::past::Past;
 use lgm_check::Refusal;
-use lgm_graph::{MAX_CHANNELS, Network};
+use lgm_graph::Network;
 use lgm_query::MapDiff;
-use lgm_store::{CheckedMessage, Op};
+use lgm_store::{CheckedMessage, Hint, Op};
 use std::alloc::{AllocError, Global};
 use std::marker::Model;
 
 /// The newest network, and what is kept of its past. Contracts see the network, how many operations it has accepted, the rows
-/// at the mark, and how many operations are kept.
+/// at the mark, whether the network that stays there has come there and the graph of its view, and how many operations are
+/// kept.
 #[derive(Drop)]
 pub struct Timeline {
     newest: Network,
@@ -28,15 +28,16 @@ impl Model for Timeline {
     ghost use Rattle.std.specs.Prelude.{length};
     ghost use Rattle.lgm_timeline.specs.History.{end};
     ghost use Rattle.lgm_timeline.specs.Timeline.{TimelineState};
-    ghost use Rattle.lgm_timeline.specs.inner.Past.{IsPast, rows_marked, is_reached_by};
+    ghost use Rattle.lgm_timeline.specs.inner.Past.{IsPast, rows_marked, is_reached_by, graph_marked_by};
 
     ghost Value = { TimelineState };
 
     ghost view = { λ t. record {
       network = t.newest;
       version = end t.past.log;
-      marked = rows_marked t.past;
+      marked = rows_marked t.newest t.past;
       is_reached = is_reached_by t.past.marked t.past.mark;
+      graph_at_mark = graph_marked_by t.newest t.past.mark;
       kept = length t.past.log.ops;
     } };
 
@@ -44,11 +45,11 @@ impl Model for Timeline {
 }
 
 impl Timeline {
-    /// A network that has accepted nothing, without a mark.
+    /// A network that has accepted nothing yet, and is the one at the mark.
     pub fn new(alloc: Global, newest: Network) -> Timeline
         ensures network { result.network ≡ newest }
         ensures version { result.version ≡ 0 }
-        ensures marked { result.marked ≡ empty }
+        ensures marked { result.marked ≡ newest.rows }
         ensures kept { result.kept ≡ 0 }
     {
         Timeline {
@@ -57,9 +58,15 @@ impl Timeline {
         }
     }
 
-    /// Admits a checked message, and applies its operation. A refusal or out of memory changes nothing; out of memory may
-    /// come in place of a refusal.
-    pub fn offer(&mut self, alloc: Global, message: CheckedMessage) -> Result<(), Refusal>
+    /// Admits a checked message, whose channel may be where the hint says, and applies its operation. A refusal or out of
+    /// memory changes nothing; out of memory may come in place of a refusal.
+    #[inline(always)]
+    pub fn offer(
+        &mut self,
+        alloc: Global,
+        message: CheckedMessage,
+        hint: Hint,
+    ) -> Result<(), Refusal>
         ensures accepted { OnOk result
             (Advances (admitted self.old.network.rows message) (newest self.old) (newest self.new)) }
         ensures refused { IfErr result (RefusesOrRunsOut (admitted self.old.network.rows message)) }
@@ -67,9 +74,9 @@ impl Timeline {
         ensures marked { self.new.marked ≡ self.old.marked }
         ensures few { OnOk result (self.new.kept ≤ most_kept self.old.network.rows) }
     {
-        self.past.make_room(alloc, &self.newest)?;
-        let op = self.newest.offer(alloc, message)?;
-        self.past.note(op);
+        let keeps = self.past.make_room(alloc, &mut self.newest)?;
+        let op = self.newest.offer_at(alloc, message, hint)?;
+        self.past.note(op, keeps);
         Ok(())
     }
 
@@ -80,21 +87,19 @@ impl Timeline {
         ensures marked { self.new.marked ≡ self.old.marked }
         ensures few { OnOk result (self.new.kept ≤ most_kept self.old.network.rows) }
     {
-        self.past.make_room(alloc, &self.newest)?;
+        let keeps = self.past.make_room(alloc, &mut self.newest)?;
         self.newest.absorb(&op)?;
-        self.past.note(op);
+        self.past.note(op, keeps);
         Ok(())
     }
 
-    /// Moves the mark to the newest map, or sets the first one. A mark that was left behind takes a copy of the map. The only
-    /// error is out of memory, which leaves the mark where it is.
-    pub fn renew_mark(&mut self, alloc: Global) -> Result<(), AllocError>
+    /// Moves the mark to the newest map, in constant time, but for freeing a map that was left behind.
+    pub fn renew_mark(&mut self)
         ensures newest { newest self.new ≡ newest self.old }
-        ensures renewed { OnOk result (self.new.marked ≡ self.old.network.rows) }
-        ensures stays { OnErr result (self.new.marked ≡ self.old.marked) }
-        ensures few { self.new.kept ≤ self.old.kept }
+        ensures marked { self.new.marked ≡ self.old.network.rows }
+        ensures few { self.new.kept ≡ self.old.kept }
     {
-        self.past.renew_mark(alloc, &self.newest)
+        self.past.renew_mark();
     }
 
     /// Brings the network of the mark there, by the operations that it lacks. The only error is out of memory.
@@ -109,23 +114,52 @@ impl Timeline {
         Ok(())
     }
 
-    /// The differences from the map at the mark to the newest one, or none before the first mark. Time is logarithmic in the
-    /// maps for each operation since the mark, or that of the map if the mark was left behind. The only error is out of
-    /// memory.
-    pub fn map_diff(&self, alloc: Global) -> Result<Option<MapDiff<'_>>, AllocError>
+    /// The network at the mark, which has come there.
+    pub fn network_at_mark(&self) -> &Network
         requires { IsTrue self.now.is_reached }
-        ensures { IfOk result (λ found. MatchOption found (self.now.marked ≡ empty) (λ map_diff.
-            map_diff ≡ record { before = self.now.marked; after = self.now.network.rows })) }
+        ensures rows { result.now.rows ≡ self.now.marked }
+        ensures known { result.now.known ≡ self.now.network.known }
+        ensures graph { result.now.graph ≡ self.now.graph_at_mark }
     {
-        let Some(mark) = &self.past.mark else {
-            return Ok(None);
-        };
-        let (before, after) = (mark.network.map(), self.newest.map());
+        match &self.past.mark {
+            Some(mark) => &mark.network,
+            None => &self.newest,
+        }
+    }
+
+    /// Builds the view of the network at the mark, unless it has one that numbers few enough points. From then on that network
+    /// keeps its view, which follows the mark. The only error is out of memory.
+    pub fn make_view_at_mark(&mut self, alloc: Global) -> Result<(), AllocError>
+        requires few { length self.old.marked.channels ≤ 2000000000 }
+        requires reached { IsTrue self.old.is_reached }
+        ensures newest { newest self.new ≡ newest self.old }
+        ensures marked { self.new.marked ≡ self.old.marked }
+        ensures still { IsTrue self.new.is_reached }
+        ensures made { OnOk result (IsSome self.new.graph_at_mark) }
+        ensures kept { IfSome self.old.graph_at_mark (λ graph. length graph.points ≤ most_points self.old.marked
+            → self.new.graph_at_mark ≡ self.old.graph_at_mark) }
+        ensures few { self.new.kept ≡ self.old.kept }
+    {
+        self.past.is_viewed = true;
+        match &mut self.past.mark {
+            Some(mark) => mark.network.make_view(alloc),
+            None => self.newest.make_view(alloc),
+        }
+    }
+
+    /// The differences from the map at the mark to the newest one. Time is logarithmic in the maps for each operation since
+    /// the mark, or that of the map if the mark was left behind. The only error is out of memory.
+    pub fn map_diff(&self, alloc: Global) -> Result<MapDiff<'_>, AllocError>
+        requires { IsTrue self.now.is_reached }
+        ensures { IfOk result (λ map_diff.
+            map_diff ≡ record { before = self.now.marked; after = self.now.network.rows }) }
+    {
+        let (before, after) = (self.network_at_mark().map(), self.newest.map());
         if !self.past.log.leads_from(self.past.marked) {
-            return Ok(Some(MapDiff::of_maps(alloc, before, after)?));
+            return MapDiff::of_maps(alloc, before, after);
         }
         let keys = self.past.log.touched_since(alloc, self.past.marked)?;
-        Ok(Some(MapDiff::between(alloc, before, after, &keys)?))
+        MapDiff::between(alloc, before, after, &keys)
     }
 
     /// The newest network for good, with its view, unless it has too many channels: the edition that was published last, if
@@ -143,7 +177,7 @@ impl Timeline {
     /// Builds the view of the newest network, unless it has one that numbers few enough points. The only error is out of
     /// memory.
     pub fn make_view(&mut self, alloc: Global) -> Result<(), AllocError>
-        requires { length self.old.network.rows.channels ≤ MAX_CHANNELS }
+        requires { length self.old.network.rows.channels ≤ 2000000000 }
         ensures newest { newest self.new ≡ newest self.old }
         ensures marked { self.new.marked ≡ self.old.marked }
         ensures viewed { OnOk result (HasView self.new.network) }
