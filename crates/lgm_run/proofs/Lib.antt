@@ -8,5 +8,4 @@ pub mod Progress
 mod Reached
 mod AnsweredLinesLaws
 pub mod RunEndLaws
-mod MapLaws
-mod ChannelCountLaws
+mod OfferLaws

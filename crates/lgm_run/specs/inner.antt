@@ -1,6 +1,4 @@
 -- Definitions for contracts inside the crate.
-pub mod Behind
-pub mod Maps
 pub mod Engine
 pub mod Turns
 pub mod Steps

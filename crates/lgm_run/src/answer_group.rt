@@ -67,7 +67,7 @@ fn answer_items<Rt: Threads + Sync, G: Gate, W: Sink>(
     let mut number = first;
     for item in all {
         let item = item?;
-        let hint = hint_of(&mut ahead, engine.growing(), &item);
+        let hint = hint_of(&mut ahead, engine.map(), &item);
         answer_item(context.pool.alloc, number, item, hint, engine, output)?;
         number += 1;
     }

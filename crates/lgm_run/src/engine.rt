@@ -1,7 +1,9 @@
 //! The state between two lines.
 
-ghost use Rattle.std.specs.Prelude.{◌≡◌, ◌+◌, ◌≤◌, ◌<◌, ◌^◌, length, IfOk, OnOk, OnErr};
+ghost use Rattle.std.specs.Prelude.{◌≡◌, ◌+◌, ◌≤◌, ◌<◌, ◌^◌, length, IfOk, IfErr, OnOk, OnErr};
 ghost use Rattle.lgm_wire.specs.reading.Reading.{Gives};
+ghost use Rattle.lgm_store.specs.Admission.{admitted_close};
+ghost use Rattle.lgm_timeline.specs.Timeline.{newest, Advances, RefusesOrRunsOut};
 ghost use Rattle.lgm_script.specs.Output.{told_by, Writes};
 ghost use Rattle.lgm_answers.specs.Answer.{commit_text};
 ghost use Rattle.lgm_run.specs.inner.CheckedItem.{outcome_on, settled};
@@ -10,41 +12,71 @@ ghost use Rattle.lgm_run.specs.inner.Steps.{opening, state_behind, state_committ
 
 use crate::checked_item::CheckedItem;
 use crate::context::Context;
-use crate::maps::Maps;
+use crate::questions::answer_questions;
 use lgm_answers::{Filters, send_commit};
 use lgm_check::Refusal;
-use lgm_graph::{Known, MAX_CHANNELS};
+use lgm_gossip::Scid;
+use lgm_graph::{Known, Network};
 use lgm_par::Gate;
-use lgm_script::{Line, Output, SendFault, Sink};
+use lgm_script::{Line, Output, SendFault, Sink, may_ask_routes};
 use lgm_store::{Hint, Map, Seed};
+use lgm_timeline::Timeline;
 use std::alloc::{AllocError, Global};
 use std::marker::Model;
 use std::thread::Threads;
 
-/// The state between two lines. Contracts see the known feature bits, the rows of all accepted items, those of the
-/// items before the last commit, the number of accepted items, and the filters of peers.
+/// The state between two lines: the map of all accepted items, with its mark at the last commit, and the filters of peers.
+/// Contracts see the known feature bits, the rows of all accepted items, those of the items before the last commit, the
+/// number of accepted items, and the filters.
 #[derive(Drop)]
 pub struct Engine {
-    maps: Maps,
-    accepted: u64,
+    timeline: Timeline,
     filters: Filters,
 }
 
 impl Model for Engine {
-    ghost use Rattle.lgm_run.specs.inner.Engine.{IsFew};
+    ghost use Rattle.lgm_run.specs.inner.Engine.{state_by_parts, IsFew};
     ghost use Rattle.lgm_answers.specs.Script.{ScriptState};
 
     ghost Value = { ScriptState };
 
-    ghost view = { λ e. record {
-      known = e.maps.known;
-      rows = e.maps.rows;
-      committed = e.maps.committed;
-      accepted = e.accepted;
-      filters = e.filters;
-    } };
+    ghost view = { λ e. state_by_parts e.timeline e.filters };
 
-    ghost invariant = { λ e. IsFew e.maps e.accepted };
+    ghost invariant = { λ e. IsFew e.timeline };
+}
+
+/// Offers a checked item, whose channel may be where the hint says. A refusal or out of memory changes nothing.
+#[inline(always)]
+#[tactic(auto, unfolding(crate::specs::inner::CheckedItem::outcome_on))]
+fn offer_to(
+    alloc: Global,
+    timeline: &mut Timeline,
+    item: CheckedItem,
+    hint: Hint,
+) -> Result<(), Refusal>
+    ensures accepted { OnOk result
+        (Advances (outcome_on timeline.old.network.rows item) (newest timeline.old) (newest timeline.new)) }
+    ensures refused { IfErr result (RefusesOrRunsOut (outcome_on timeline.old.network.rows item)) }
+    ensures stays { OnErr result (newest timeline.new ≡ newest timeline.old) }
+    ensures marked { timeline.new.marked ≡ timeline.old.marked }
+{
+    match item {
+        CheckedItem::Message(message) => timeline.offer(alloc, message, hint),
+        CheckedItem::Close(scid) => close(alloc, timeline, scid),
+        CheckedItem::Refused(refusal) => Err(refusal),
+    }
+}
+
+/// Closes a channel. A refusal or out of memory changes nothing.
+fn close(alloc: Global, timeline: &mut Timeline, scid: Scid) -> Result<(), Refusal>
+    ensures accepted { OnOk result (Advances (admitted_close timeline.old.network.rows scid)
+        (newest timeline.old) (newest timeline.new)) }
+    ensures refused { IfErr result (RefusesOrRunsOut (admitted_close timeline.old.network.rows scid)) }
+    ensures stays { OnErr result (newest timeline.new ≡ newest timeline.old) }
+    ensures marked { timeline.new.marked ≡ timeline.old.marked }
+{
+    let close = timeline.network().map().admit_close(scid)?;
+    Ok(timeline.absorb(alloc, close)?)
 }
 
 impl Engine {
@@ -53,8 +85,7 @@ impl Engine {
         ensures { IfOk result (λ engine. engine ≡ opening known.now) }
     {
         Ok(Engine {
-            maps: Maps::new(alloc, seed, known)?,
-            accepted: 0,
+            timeline: Timeline::new(alloc, Network::new(alloc, seed, known)?),
             filters: Filters::new(alloc),
         })
     }
@@ -63,12 +94,12 @@ impl Engine {
     pub fn accepted(&self) -> u64
         ensures { result ≡ self.now.accepted }
     {
-        self.accepted
+        self.timeline.version()
     }
 
-    /// The map to which items are offered. It may still be behind.
-    pub fn growing(&self) -> &Map {
-        self.maps.growing()
+    /// The map to which items are offered.
+    pub fn map(&self) -> &Map {
+        self.timeline.network().map()
     }
 
     /// Offers a checked item, whose channel may be where the hint says. A refusal or out of memory leaves all unchanged.
@@ -79,9 +110,7 @@ impl Engine {
         ensures state { OnOk result (self.new ≡ state_behind self.old (outcome_on self.old.rows item)) }
         ensures same { OnErr result (self.new ≡ self.old) }
     {
-        self.maps.offer(alloc, item, hint)?;
-        self.accepted += 1;
-        Ok(())
+        offer_to(alloc, &mut self.timeline, item, hint)
     }
 
     /// Answers lines that request something of the committed map, the first with this number, and sets their filters.
@@ -92,7 +121,7 @@ impl Engine {
         lines: &[&[u8]],
         output: &mut Output<'_, W>,
     ) -> Result<(), SendFault>
-        requires few { self.old.accepted ≤ MAX_CHANNELS }
+        requires few { self.old.accepted ≤ 2000000000 }
         requires number { number + length lines.now < 2 ^ 64 }
         ensures state { OnOk result (self.new ≡ record self.old
             { filters = filters_behind context.now.chain self.old.filters (asked_in lines.now) }) }
@@ -100,8 +129,12 @@ impl Engine {
             (questions_text context.now.chain self.old.known self.old.committed number
             self.old.filters (asked_in lines.now)) result }
     {
-        self.maps
-            .answer_questions(context, number, lines, &mut self.filters, output)
+        self.timeline.reach_mark()?;
+        if may_ask_routes(lines) {
+            self.timeline.make_view_at_mark(context.pool.alloc)?;
+        }
+        let committed = self.timeline.network_at_mark();
+        answer_questions(context, committed, number, lines, &mut self.filters, output)
     }
 
     /// Commits all accepted items, and writes the news of peers. The cost is that of the items accepted
@@ -118,28 +151,30 @@ impl Engine {
             self.old.filters) result }
     {
         self.send_commit(alloc, number, output)?;
-        self.maps.commit();
+        self.timeline.renew_mark();
         Ok(())
     }
 
     /// Writes the answer to a commit. Without filters there are no news, and none are looked for.
     fn send_commit<W: Sink>(
-        &self,
+        &mut self,
         alloc: Global,
         number: u64,
         output: &mut Output<'_, W>,
     ) -> Result<(), SendFault>
-        ensures { Writes (told_by W.seen output.old) (told_by W.seen output.new)
-            (commit_text number self.now.accepted self.now.committed self.now.rows self.now.filters) result }
+        ensures same { self.new ≡ self.old }
+        ensures written { Writes (told_by W.seen output.old) (told_by W.seen output.new)
+            (commit_text number self.old.accepted self.old.committed self.old.rows self.old.filters) result }
     {
         if self.filters.as_map().is_empty() {
-            return output.send(number, &Line::Commit(self.accepted));
+            return output.send(number, &Line::Commit(self.accepted()));
         }
-        let map_diff = self.maps.map_diff(alloc)?;
+        self.timeline.reach_mark()?;
+        let map_diff = self.timeline.map_diff(alloc)?;
         send_commit(
             alloc,
             number,
-            self.accepted,
+            self.timeline.version(),
             &self.filters,
             &map_diff,
             output,

@@ -10,7 +10,6 @@ mod context;
 mod engine;
 mod final_state;
 mod lookahead;
-mod maps;
 mod questions;
 mod script_run;
 

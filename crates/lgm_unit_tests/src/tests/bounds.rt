@@ -2,12 +2,11 @@
 
 use super::memory::most_memory;
 use lgm_gossip::Scid;
-use lgm_graph::{Known, Network, push_pending, reserve_pending};
+use lgm_graph::{Known, Network};
 use lgm_store::{Map, Op, Seed};
-use lgm_test_gossip::ops::{channel, update};
-use lgm_test_gossip::{FREE, empty_map};
+use lgm_test_gossip::empty_map;
+use lgm_test_gossip::ops::channel;
 use std::alloc::{AllocError, Global};
-use std::collections::VecDeque;
 use std::test::Fail;
 
 /// The id of the channel of a block.
@@ -52,22 +51,6 @@ fn a_view_forgets_nodes(rt: HostRuntime) -> Result<(), Fail> {
         }
     }
     assert_eq!(rt; most, 1_024);
-    Ok(())
-}
-
-/// Operations on a map of one channel are kept while they are 1,025 at most.
-#[test]
-fn pending_operations_are_few(rt: HostRuntime) -> Result<(), Fail> {
-    let alloc = rt.alloc();
-    let mut pending = Some(VecDeque::new(alloc));
-    for count in 0..1_025usize {
-        assert_eq!(rt; pending.as_ref().map(|ops| ops.len()), Some(count));
-        reserve_pending(&mut pending)?;
-        push_pending(&mut pending, update(alloc, scid(7), 0, &FREE)?, 1);
-    }
-    reserve_pending(&mut pending)?;
-    push_pending(&mut pending, update(alloc, scid(7), 0, &FREE)?, 1);
-    assert!(rt; pending.is_none());
     Ok(())
 }
 

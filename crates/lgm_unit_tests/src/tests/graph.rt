@@ -1,10 +1,11 @@
 //! `lgm_graph`: edges as operations change them, and views of them.
 
 use lgm_gossip::{Point, Scid};
-use lgm_graph::{Edge, Known, Network, Replica, View, fee};
+use lgm_graph::{Edge, Known, Network, View, fee};
 use lgm_store::{Map, Op, Seed};
 use lgm_test_gossip::ops::{ban, channel, node, update};
 use lgm_test_gossip::{FREE, Terms, point};
+use lgm_timeline::Timeline;
 use std::alloc::{AllocError, Global};
 use std::test::Fail;
 
@@ -283,37 +284,56 @@ fn each_step_keeps_map_and_view(rt: HostRuntime) {
     }
 }
 
-/// A replica of a network without channels.
-fn replica(alloc: Global) -> Result<Box<Replica>, AllocError> {
-    let mut network = Network::new(alloc, Seed::new([7; 16]), &Known::all())?;
-    network.make_view(alloc)?;
-    Ok(Box::new(alloc, Replica::new(alloc, network))?)
-}
-
-/// Such a replica to which these steps are due.
-fn behind(alloc: Global, steps: &[Step]) -> Result<Box<Replica>, AllocError> {
-    let mut replica = replica(alloc)?;
-    for step in steps {
-        replica.due.push_back(operation(alloc, *step)?)?;
+/// A timeline whose mark is on a channel without updates, and has its view there.
+fn marked(alloc: Global) -> Result<Box<Timeline>, AllocError> {
+    let network = Network::new(alloc, Seed::new([7; 16]), &Known::all())?;
+    let mut timeline = Box::new(alloc, Timeline::new(alloc, network))?;
+    timeline.absorb(alloc, operation(alloc, Step::Channel(9, (20, 21)))?)?;
+    timeline.renew_mark();
+    timeline.reach_mark()?;
+    if timeline.network_at_mark().map().count() > 1_000 {
+        return Err(AllocError);
     }
-    Ok(replica)
+    timeline.make_view_at_mark(alloc)?;
+    Ok(timeline)
 }
 
-/// Whether nothing is due to a replica that has caught up with these steps, and its view is as one that is made of its
-/// map; and how many edges it has.
-fn caught_up(alloc: Global, steps: &[Step]) -> Result<(bool, Option<usize>), AllocError> {
-    let mut replica = behind(alloc, steps)?;
-    replica.catch_up()?;
-    let same = has_its_view(alloc, &replica.network)?;
-    Ok((same && replica.due.is_empty(), edge_count(&replica.network)))
+/// Whether the network at the mark has its view, which is as one that is made of its map; and how many edges it has.
+fn at_mark(alloc: Global, timeline: &mut Timeline) -> Result<(bool, Option<usize>), AllocError> {
+    timeline.reach_mark()?;
+    let network = timeline.network_at_mark();
+    Ok((has_its_view(alloc, network)?, edge_count(network)))
 }
 
+/// The edges at such a mark when these steps are behind it, and once it has moved there; and those of the newest network.
+fn passed(alloc: Global, steps: &[Step]) -> Result<[(bool, Option<usize>); 3], AllocError> {
+    let mut timeline = marked(alloc)?;
+    for step in steps {
+        timeline.absorb(alloc, operation(alloc, *step)?)?;
+    }
+    let before = at_mark(alloc, &mut timeline)?;
+    timeline.renew_mark();
+    let after = at_mark(alloc, &mut timeline)?;
+    let newest = timeline.network();
+    Ok([
+        before,
+        after,
+        (has_its_view(alloc, newest)?, edge_count(newest)),
+    ])
+}
+
+/// The network at the mark keeps its view while the newest one goes on without, and has it when it comes to the next mark.
 #[test]
-fn a_replica_catches_up(rt: HostRuntime) -> Result<(), Fail> {
+fn a_view_stays_at_the_mark(rt: HostRuntime) -> Result<(), Fail> {
     let alloc = rt.alloc();
-    assert_eq!(rt; edge_count(&behind(alloc, &BESIDE)?.network), Some(0));
-    assert_eq!(rt; caught_up(alloc, &BESIDE)?, (true, Some(5)));
-    assert_eq!(rt; caught_up(alloc, &BANNED_EDGES)?, (true, Some(2)));
+    assert_eq!(rt;
+        passed(alloc, &BESIDE)?,
+        [(true, Some(0)), (true, Some(5)), (false, None)]
+    );
+    assert_eq!(rt;
+        passed(alloc, &BANNED_EDGES)?,
+        [(true, Some(0)), (true, Some(2)), (false, None)]
+    );
     Ok(())
 }
 
