@@ -1,12 +1,12 @@
 -- Two chains of labels, followed in lockstep.
-use Rattle.std.proofs.Common.{◌≡◌, ℕ, ◌-◌, ◌<◌, List, [], ◌∷◌, ◌++◌, length, sym, ◌∙◌, ap, subst, inl, inr, arith}
+use Rattle.std.proofs.Common.{◌≡◌, ℕ, ◌-◌, ◌<◌, ◌≤◌, List, [], ◌∷◌, ◌++◌, length, sym, ◌∙◌, ap, subst, inl, inr, arith}
 use Rattle.std.proofs.lemmas.List.{append_assoc}
 use Rattle.lgm_graph.specs.Graph.{Graph}
 use Rattle.lgm_graph.specs.declared.edge.Edge.{Edge}
 use Rattle.lgm_route.specs.declared.label.Label.{Label}
 use Rattle.lgm_route.specs.inner.Numbered.{ids}
-use Rattle.lgm_route.specs.inner.Searching.{NotAfter, label_at, Spells, IsSpelled, IdsFirst, Begins, first_of}
-use Rattle.lgm_route.proofs.Orders.{NotAfter-refl, NotAfter-join}
+use Rattle.lgm_route.specs.inner.Searching.{NotAfter, label_at, Spells, IsSpelled, IdsFirst, IdsAfter, Begins, first_of}
+use Rattle.lgm_route.proofs.Orders.{NotAfter-refl, NotAfter-join, NotAfter-heads, NotAfter-tails}
 use Rattle.lgm_route.proofs.Labels.{Spells-unique}
 
 -- this many edges from the end the chains are at these labels, and what follows decides
@@ -19,6 +19,7 @@ pub record AreBeside (graph : Graph) (labels : List Label) (label other here the
   pub long_also : length also ≡ hops
   pub first : NotAfter (ids rest) (ids also) → IdsFirst graph labels label other
   pub after : NotAfter (ids also) (ids rest) → IdsFirst graph labels other label
+  pub strictly : (NotAfter (ids rest) (ids also) → ⊥) → IdsAfter graph labels label other
 
 pub beside_start : (graph : Graph) (labels : List Label) (label other : Label) → IsSpelled graph labels label
     → IsSpelled graph labels other → label.hops ≡ other.hops →
@@ -33,6 +34,7 @@ beside_start graph labels label other h k e =
       long_also = k.2 ∙ sym e;
       first = λ p rest also s t m n. move rest also s t m n p;
       after = λ p also rest t s n m. move_back rest also s t m n p;
+      strictly = λ not rest also s t m n q. not (back rest also s t m n q);
     }
   where
     same : (rest : List Edge) → Spells graph labels label rest → length rest ≡ label.hops → h.0 ≡ rest
@@ -54,6 +56,13 @@ beside_start graph labels label other h k e =
     move_back rest also s t m n p =
         subst (λ r. NotAfter (ids also) (ids r)) (same rest s m)
         (subst (λ r. NotAfter (ids r) (ids h.0)) (same_also also t n) p)
+
+    back : (rest also : List Edge) → Spells graph labels label rest → Spells graph labels other also
+        → length rest ≡ label.hops → length also ≡ other.hops →
+        NotAfter (ids rest) (ids also) → NotAfter (ids h.0) (ids k.0)
+    back rest also s t m n q =
+        subst (λ r. NotAfter (ids r) (ids k.0)) (sym (same rest s m))
+        (subst (λ r. NotAfter (ids rest) (ids r)) (sym (same_also also t n)) q)
 
 -- if edges are left, each label has one, and a parent
 pub record HasMore (graph : Graph) (labels : List Label) (label : Label) (rest : List Edge) (hops : ℕ) : Type 0 where
@@ -117,6 +126,26 @@ module _ {graph : Graph} {labels : List Label} {label other here there : Label} 
       (subst (λ r. NotAfter (ids r) (ids (first_of graph labels here ∷ one.tail))) (sym two.is)
       (NotAfter-join (first_of graph labels there).scid (first_of graph labels here).scid (ids two.tail) (ids one.tail) (inl p))))
 
+  -- the order of what is left, by the first edges
+  both : NotAfter (ids beside.rest) (ids beside.also)
+      → NotAfter (ids (first_of graph labels here ∷ one.tail)) (ids (first_of graph labels there ∷ two.tail))
+  both q =
+      subst (λ r. NotAfter (ids (first_of graph labels here ∷ one.tail)) (ids r)) two.is
+      (subst (λ r. NotAfter (ids r) (ids beside.also)) one.is q)
+
+  pub beside_later : (first_of graph labels there).scid < (first_of graph labels here).scid → IdsAfter graph labels label other
+  beside_later p = beside.strictly (λ q. over (NotAfter-heads (first_of graph labels here).scid (first_of graph labels there).scid
+      (ids one.tail) (ids two.tail) (both q)))
+    where
+      over : (first_of graph labels here).scid ≤ (first_of graph labels there).scid → ⊥
+      over h = omega arith
+
+  pub strict_tail : (first_of graph labels here).scid ≡ (first_of graph labels there).scid
+      → (NotAfter (ids one.tail) (ids two.tail) → ⊥) → IdsAfter graph labels label other
+  strict_tail e not =
+      beside.strictly (λ q. not (NotAfter-tails (first_of graph labels here).scid (first_of graph labels there).scid
+      (ids one.tail) (ids two.tail) e (both q)))
+
   pub first_tail : (first_of graph labels here).scid ≡ (first_of graph labels there).scid
       → NotAfter (ids one.tail) (ids two.tail) → IdsFirst graph labels label other
   first_tail e p =
@@ -143,6 +172,7 @@ module _ {graph : Graph} {labels : List Label} {label other here there : Label} 
         long_also = two.long;
         first = first_tail e;
         after = after_tail e;
+        strictly = strict_tail e;
       }
 
   pub beside_same : (first_of graph labels here).scid ≡ (first_of graph labels there).scid

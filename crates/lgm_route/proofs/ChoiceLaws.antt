@@ -240,7 +240,7 @@ answer-unique edges request answer other keyed is also = by (refusal request) re
 abbrev pub HaveSame : List PointEdge → List PointEdge → Type 0
 HaveSame edges others = (edge : PointEdge) → Contains edges edge ↔ Contains others edge
 
-rest_over : (edges others : List PointEdge) (request : Request) (node : Point) (walk : List PointEdge)
+pub rest_over : (edges others : List PointEdge) (request : Request) (node : Point) (walk : List PointEdge)
     → ((edge : PointEdge) → Contains edges edge → Contains others edge) →
     IsRest edges request node walk → IsRest others request node walk
 rest_over edges others request node [] stored joins = joins

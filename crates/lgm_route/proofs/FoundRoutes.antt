@@ -1,5 +1,5 @@
 -- What a search found, as the answer of a call.
-use Rattle.std.proofs.Common.{◌≡◌, ◌⊎◌, ℕ, ◌+◌, ◌^◌, ◌<◌, ◌≤◌, Bool, true, false, List, [], ◌∷◌, length, refl, sym, ◌∙◌, ap, subst, inl, inr, arith}
+use Rattle.std.proofs.Common.{◌≡◌, ℕ, ◌+◌, ◌≤◌, Bool, true, false, List, [], ◌∷◌, length, refl, sym, ◌∙◌, ap, subst, inl, inr, arith}
 use Rattle.std.specs.Prelude.{nat_le, ◌&&◌, Option, Some, None, Result, Ok, Err}
 use Rattle.std.specs.List.{position}
 use Rattle.std.proofs.lemmas.Bool.{false≢true}
@@ -16,14 +16,12 @@ use Rattle.lgm_route.specs.declared.request.Request.{Request}
 use Rattle.lgm_route.specs.declared.limits.RouteLimits.{RouteLimits}
 use Rattle.lgm_route.specs.declared.limits.SearchBudget.{SearchBudget}
 use Rattle.lgm_route.specs.declared.fault.RouteFault.{RouteFault}
-use Rattle.lgm_route.specs.declared.fault.RouteFault.TheVariants.{NoRoute, NoMemory}
-use Rattle.lgm_route.specs.declared.found.Found.{Found}
-use Rattle.lgm_route.specs.declared.found.WalkFound.{WalkFound}
+use Rattle.lgm_route.specs.declared.fault.RouteFault.TheVariants.{NoRoute}
 use Rattle.lgm_route.specs.declared.found.SearchFault.{SearchFault}
 use Rattle.lgm_route.specs.declared.found.SearchFault.TheVariants.{Fault, Undecided}
 use Rattle.lgm_route.specs.Answers.{refusal, IsAnswer, IsAnswerBy}
-use Rattle.lgm_route.specs.Routes.{due, hops_of, IsUsable, IsLeast}
-use Rattle.lgm_route.specs.Preferred.{delay, IsInTime, IsWithin, no_limits, IsLeastBy, IsFoundBy, IsPreferredBy, IsPreferredAnswer}
+use Rattle.lgm_route.specs.Routes.{due, hops_of}
+use Rattle.lgm_route.specs.Preferred.{delay, no_limits, IsFoundBy, IsPreferredBy, IsPreferredAnswer}
 use Rattle.lgm_route.specs.Preferred.{penalty_at, is_in_time, is_within, IsSomeRoute, IsRouteBy, IsBeyond}
 use Rattle.lgm_route.specs.inner.Numbered as walks
 use Rattle.lgm_route.specs.Odds.{penalty_by}
@@ -49,8 +47,8 @@ module _ (graph : Graph) (listed : AreListed graph) (request : Request) (payer p
       → hops ≡ hops_of request (edges_in graph walk) → IsSomeRoute limits (point_edges graph) request hops
   some_route walk hops usable are = (
     edges_in graph walk,
-    usable_over graph listed request payer payee payer_is payee_is limits terms penalty alike walk usable,
-    within_over graph listed request payer payee payer_is payee_is limits terms penalty alike walk usable,
+    usable_over graph listed request payer payee payer_is payee_is limits terms walk usable,
+    within_over graph listed request payer payee payer_is payee_is limits terms walk usable,
     are,
   )
 
@@ -64,7 +62,7 @@ module _ (graph : Graph) (listed : AreListed graph) (request : Request) (payer p
       → IsPreferredAnswer penalty limits (point_edges graph) request (Err NoRoute)
   no_route none =
       subst (λ o. IsPreferredBy o penalty limits (point_edges graph) request (Err NoRoute)) (sym allowed)
-      (refl, none_over graph listed request payer payee payer_is payee_is limits terms penalty alike none)
+      (refl, none_over graph listed request payer payee payer_is payee_is limits terms none)
 
   -- a search that found no walk
   pub walk_fault : (budget : SearchBudget) (fault : SearchFault) → IsWalkFound (edges graph) ask budget (Err fault)

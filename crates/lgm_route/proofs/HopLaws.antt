@@ -4,7 +4,7 @@ use Rattle.std.proofs.Common.{◌++◌, length, get_or, drop, reverse, refl, sym
 use Rattle.std.proofs.lemmas.List.{drop_more, reverse-append}
 use Rattle.lgm_graph.specs.Fee.{fee_of}
 use Rattle.lgm_graph.specs.Edges.{PointEdge}
-use Rattle.lgm_graph.specs.Graph.{Graph, edges, AreListed}
+use Rattle.lgm_graph.specs.Graph.{Graph}
 use Rattle.lgm_graph.specs.declared.edge.Edge.{Edge}
 use Rattle.lgm_route.specs.declared.request.Request.{Request}
 use Rattle.lgm_route.specs.inner.Numbered.{Ask}
@@ -12,7 +12,7 @@ use Rattle.lgm_graph.specs.declared.route.Hop.{Hop}
 use Rattle.lgm_route.specs.Routes.{owed, due, hops_of}
 use Rattle.lgm_route.specs.inner.Numbered as walks
 use Rattle.lgm_route.specs.inner.Searching.{AreCarried}
-use Rattle.lgm_route.specs.inner.Best.{edges_in, hop_over, AreNumbered}
+use Rattle.lgm_route.specs.inner.Best.{edges_in, hop_over}
 use Rattle.lgm_route.proofs.PointWalkLaws.{over, owed_over}
 use Rattle.lgm_route.proofs.Rests.{carried_at}
 

@@ -50,3 +50,11 @@ NotAfter-heads x y xs ys h = by (NotAfter-split x y xs ys h)
     by : Split x y xs ys → x ≤ y
     by (inl q) = omega arith
     by (inr q) = omega (arith, q.0)
+
+-- below equal first numbers, so are the others
+pub NotAfter-tails : (x y : ℕ) (xs ys : List ℕ) → x ≡ y → NotAfter (x ∷ xs) (y ∷ ys) → NotAfter xs ys
+NotAfter-tails x y xs ys e h = by (NotAfter-split x y xs ys h)
+  where
+    by : Split x y xs ys → NotAfter xs ys
+    by (inl q) = absurd (omega arith)
+    by (inr q) = q.1

@@ -1,22 +1,24 @@
 -- From numbered nodes to points: the walks over numbered edges are those over edges between points.
-use Rattle.std.proofs.Common.{◌≡◌, ◌⊎◌, ℕ, zero, suc, ◌+◌, ◌<◌, ◌≤◌, List, [], Option, inl, inr}
+use Rattle.std.proofs.Common.{◌≡◌, ◌⊎◌, ℕ, zero, suc, ◌+◌, ◌^◌, ◌<◌, ◌≤◌, List, [], Option, inl, inr}
 use Rattle.std.proofs.Common.{◌∷◌, length, get_or, map, Some, None, refl, sym, ◌∙◌, ap, subst, arith}
 use Rattle.std.specs.Prelude.{Contains, min}
 use Rattle.std.specs.List.{position}
 use Rattle.std.specs.Ordering.{nat_cmp}
 use Rattle.std.specs.Cmp.Lexicographic.{slice_cmp}
-use Rattle.std.proofs.lemmas.List.{length-map}
+use Rattle.std.proofs.lemmas.List.{length-map, get_or-map}
 use Rattle.lgm_wire.specs.declared.point.Point.{Point}
 use Rattle.lgm_store.specs.Rows.{is_point}
 use Rattle.lgm_graph.specs.Fee.{fee_of}
 use Rattle.lgm_graph.specs.Edges.{PointEdge}
 use Rattle.lgm_graph.specs.declared.edge.Edge.{Edge}
-use Rattle.lgm_graph.specs.Graph.{Graph, number_of, IsNumbered, no_point, edge_between, edges, point_edges, AreListed}
+use Rattle.lgm_graph.specs.Graph.{Graph, number_of, numbered_in, IsNumbered, no_point, edge_between, edges, point_edges, AreListed}
 use Rattle.lgm_graph.proofs.Numbers.{number_none, number_some, get_number}
 use Rattle.lgm_route.specs.declared.request.Request.{Request}
 use Rattle.lgm_route.specs.inner.Numbered.{Ask}
 use Rattle.lgm_route.specs.Routes as routes
 use Rattle.lgm_route.specs.inner.Numbered as walks
+use Rattle.lgm_route.specs.inner.Best as numbers
+use Rattle.lgm_route.specs.declared.limits.SearchBudget.{SearchBudget}
 use Rattle.lgm_route.specs.inner.Best.{AreAlike, AreNumbered, IsFree, free, ask_of}
 use Rattle.lgm_route.specs.Answers.{refusal, IsAnswer, IsAnswerBy, IsFoundOver}
 use Rattle.lgm_route.specs.declared.limits.RouteLimits.{RouteLimits}
@@ -33,13 +35,13 @@ map_at f [] i d = refl
 map_at f (x ∷ xs) zero d = refl
 map_at f (x ∷ xs) (suc i) d = map_at f xs i d
 
-contains_map : {A B : Type 0} (f : A → B) (xs : List A) (x : A) → Contains xs x → Contains (map f xs) (f x)
+pub contains_map : {A B : Type 0} (f : A → B) (xs : List A) (x : A) → Contains xs x → Contains (map f xs) (f x)
 contains_map f xs x there = (there.0, omega (arith, length-map xs f, there.1), map_at f xs there.0 x ∙ ap f there.2)
 
 contains_tail : {A : Type 0} (x y : A) (xs : List A) → Contains xs y → Contains (x ∷ xs) y
 contains_tail x y xs there = (suc there.0, omega (arith, there.1), there.2)
 
-contained_map : {A B : Type 0} (f : A → B) (xs : List A) (y : B) (i : ℕ) → i < length (map f xs)
+pub contained_map : {A B : Type 0} (f : A → B) (xs : List A) (y : B) (i : ℕ) → i < length (map f xs)
     → get_or (map f xs) i y ≡ y → (x : A) × Contains xs x × (f x ≡ y)
 contained_map f [] y i lt e = absurd (omega arith)
 contained_map f (x ∷ xs) y zero lt e = (x, (0, omega arith, refl), e)
@@ -122,6 +124,11 @@ time_back points None (by_number ∷ rest) h = omega (arith, no_delay rest)
 time_back points (Some limit) [] h = h
 time_back points (Some limit) (by_number ∷ rest) h = omega (arith, h, delay_over points limit rest)
 
+due_over : (points : List Point) (limit : Option ℕ) (rest : List Edge) → walks.delay limit rest ≤ walks.most_delay limit
+    → preferred.IsDueIn limit (over points rest)
+due_over points None rest h = tt
+due_over points (Some limit) rest h = omega (arith, h, delay_over points limit rest)
+
 -- ---- without penalties it is the walk that sends least
 
 no_penalties : (penalty : PointEdge → ℕ → ℕ) → IsFree penalty → (amount : ℕ) (walk : List PointEdge)
@@ -201,7 +208,7 @@ free_fault edges request fault is = by (refusal request) is
 module _ (graph : Graph) (listed : AreListed graph) (request : Request) (payer payee : ℕ)
     (payer_is : position (is_point request.payer) graph.points ≡ Some payer)
     (payee_is : position (is_point request.payee) graph.points ≡ Some payee) (limits : RouteLimits)
-    (terms : Option walks.Terms) (penalty : PointEdge → ℕ → ℕ) (alike : AreAlike graph terms penalty) where
+    (terms : Option walks.Terms) where
   abbrev numbered : Ask
   numbered = ask_of payer payee request limits terms
 
@@ -215,7 +222,7 @@ module _ (graph : Graph) (listed : AreListed graph) (request : Request) (payer p
       ∙ get_number graph.points p no_point (subst (λ (k : ℕ). k < length graph.points) (sym number.0) number.1)
 
   -- a walk over numbered edges is one over edges between points
-  rest_over : (walk : List Edge) (node : ℕ) → walks.IsRest (edges graph) numbered node walk
+  pub rest_over : (walk : List Edge) (node : ℕ) → walks.IsRest (edges graph) numbered node walk
       → routes.IsRest (point_edges graph) request (point_at node) (over graph.points walk)
   rest_over [] node joins = ap point_at joins ∙ stands request.payee payee payee_is
   rest_over (by_number ∷ rest) node joins = (
@@ -262,6 +269,56 @@ module _ (graph : Graph) (listed : AreListed graph) (request : Request) (payer p
         ),
       )
 
+  -- different ones stay different
+  rest_same : (rest : List Edge) (node : ℕ) → walks.IsRest (edges graph) numbered node rest
+      → map (numbered_in graph.points) (over graph.points rest) ≡ rest
+  rest_same [] node joins = refl
+  rest_same (edge ∷ rest) node joins =
+      ap (λ e. e ∷ map (numbered_in graph.points) (over graph.points rest)) (listed.each edge joins.0.there).back
+      ∙ ap (λ r. edge ∷ r) (rest_same rest edge.to joins.1)
+
+  rest_within : (rest : List Edge) → numbers.IsRestWithin (edges graph) numbered rest
+      → preferred.IsRestWithin limits (point_edges graph) request (over graph.points rest)
+  rest_within rest is = record {
+    node = point_at is.node;
+    joins = rest_over rest is.node is.joins;
+    short = omega (arith, is.short, length-map rest (edge_between graph.points));
+    in_time = due_over graph.points limits.most_delay rest is.in_time;
+  }
+
+  pub rests_over : (count : ℕ) → numbers.HaveRests (edges graph) numbered count → preferred.HaveRests limits (point_edges graph) request count
+  rests_over count have = record {
+    rests = map (over graph.points) have.rests;
+    many = omega (arith, have.many, long);
+    within = λ i d in_range. subst (preferred.IsRestWithin limits (point_edges graph) request) (sym (at i d in_range))
+        (rest_within (get_or have.rests i []) (have.within i [] (omega (arith, in_range, long))));
+    different = λ i j d before in_range same. different i j before (omega (arith, in_range, long))
+        (sym (at i d (omega (arith, before, in_range))) ∙ same ∙ at j d in_range);
+  }
+    where
+      long : length (map (over graph.points) have.rests) ≡ length have.rests
+      long = length-map have.rests (over graph.points)
+
+      at : (i : ℕ) (d : List PointEdge) → i < length (map (over graph.points) have.rests)
+          → get_or (map (over graph.points) have.rests) i d ≡ over graph.points (get_or have.rests i [])
+      at i d in_range = get_or-map (over graph.points) have.rests i [] d (omega (arith, in_range, long))
+
+      back : (i : ℕ) → i < length have.rests
+          → map (numbered_in graph.points) (over graph.points (get_or have.rests i [])) ≡ get_or have.rests i []
+      back i in_range =
+          let is = have.within i [] in_range in
+          rest_same (get_or have.rests i []) is.node is.joins
+
+      different : (i j : ℕ) → i < j → j < length have.rests
+          → over graph.points (get_or have.rests i []) ≡ over graph.points (get_or have.rests j []) → ⊥
+      different i j before in_range same = have.different i j [] before in_range
+          (sym (back i (omega (arith, before, in_range))) ∙ ap (map (numbered_in graph.points)) same ∙ back j in_range)
+
+  pub used_over : (budget : SearchBudget) → numbers.IsUsedUp (edges graph) numbered budget
+      → preferred.IsUsedUp limits (point_edges graph) request budget
+  used_over budget (inl p) = inl (p.0, rests_over (min budget.most_labels (2 ^ 32)) p.1)
+  used_over budget (inr p) = inr p
+
   usable_back : (walk : List PointEdge) → routes.IsUsable (point_edges graph) request walk → IsWithin limits walk
       → (back : List Edge) × (over graph.points back ≡ walk) × walks.IsUsable (edges graph) numbered back
   usable_back walk usable within =
@@ -300,9 +357,9 @@ module _ (graph : Graph) (listed : AreListed graph) (request : Request) (payer p
         in_time = time_over graph.points limits.most_delay walk usable.in_time;
       }
 
-  pub least_over : (walk : List Edge) → walks.IsLeast (edges graph) numbered walk
+  pub least_over : (penalty : PointEdge → ℕ → ℕ) → AreAlike graph terms penalty → (walk : List Edge) → walks.IsLeast (edges graph) numbered walk
       → IsLeastBy penalty limits (point_edges graph) request (over graph.points walk)
-  least_over walk least =
+  least_over penalty alike walk least =
       record {
         usable = usable_over walk least.usable;
         within = within_over walk least.usable;

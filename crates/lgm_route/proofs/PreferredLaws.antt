@@ -1,20 +1,20 @@
 -- Exhaustive search finds the best walk by penalties, within limits, which is unique.
-use Rattle.std.proofs.Common.{◌≡◌, ◌≢◌, ◌⊎◌, ℕ, ◌+◌, ◌-◌, ◌*◌, ◌/◌, ◌^◌, ◌≤◌, inl, inr, min, Bool, true, false, List, [], ◌∷◌, length, refl, sym, ◌∙◌, ap, subst, arith}
+use Rattle.std.proofs.Common.{◌≡◌, ◌≢◌, ℕ, ◌+◌, ◌-◌, ◌*◌, ◌/◌, ◌^◌, ◌≤◌, inl, inr, min, true, List, [], ◌∷◌, length, refl, sym, ◌∙◌, ap, subst, arith}
 use Rattle.std.proofs.lemmas.Bool.Decides.{nat_tests}
 use Rattle.std.specs.Prelude.{nat_le, nat_eq, ◌&&◌, Option, Some, None, Result, Ok, Err}
-use Rattle.std.specs.List.{fold, Contains}
+use Rattle.std.specs.List.{fold}
 use Rattle.std.specs.List.Sorted.{IsPermutation}
 use Rattle.std.proofs.Math.Nat.{min-le_left}
 use Rattle.std.proofs.lemmas.Bool.{and_parts}
 use Rattle.lgm_graph.specs.Edges.{PointEdge, AreKeyed}
-use Rattle.lgm_graph.specs.Estimates.{Entries, estimate_of}
+use Rattle.lgm_graph.specs.Estimates.{Entries}
 use Rattle.lgm_graph.specs.declared.route.Hop.{Hop}
 use Rattle.lgm_graph.proofs.Members.{Among, Among-passes, Among-passed}
 use Rattle.lgm_route.specs.declared.request.Request.{Request}
 use Rattle.lgm_route.specs.declared.limits.RouteLimits.{RouteLimits}
+use Rattle.lgm_route.specs.declared.limits.SearchBudget.{SearchBudget}
 use Rattle.lgm_route.specs.declared.preferences.Preferences.{Preferences}
 use Rattle.lgm_route.specs.declared.fault.RouteFault.{RouteFault}
-use Rattle.lgm_route.specs.declared.fault.RouteFault.TheVariants.{NoMemory}
 use Rattle.lgm_route.specs.declared.found.Found.{Found}
 use Rattle.lgm_route.specs.declared.found.SearchFault.{SearchFault}
 use Rattle.lgm_route.specs.declared.found.SearchFault.TheVariants.{Fault, Undecided}
@@ -22,15 +22,15 @@ use Rattle.lgm_route.specs.Routes.{hops_of, IsUsable}
 use Rattle.lgm_route.specs.Answers.{refusal, IsAnswerBy}
 use Rattle.lgm_route.specs.Odds.{odds}
 use Rattle.lgm_route.specs.Choice.{usable_walks, lesser, least_of, found_by, answer_by, answer_of}
-use Rattle.lgm_route.specs.Preferred.{delay, IsInTime, IsWithin, no_limits, penalty_at, worth_key, IsPreferred, IsLeastBy, IsFoundBy}
+use Rattle.lgm_route.specs.Preferred.{delay, IsInTime, IsWithin, no_limits, penalty_at, worth_key, IsPreferred, IsFoundBy}
 use Rattle.lgm_route.specs.Preferred.{IsPreferredBy, IsPreferredAnswer, is_in_time, is_within, walks_within, preferred_walk, preferred_answer}
-use Rattle.lgm_route.specs.Preferred.{IsSomeRoute, IsRouteBy, IsBeyond, no_preferences}
-use Rattle.lgm_route.specs.inner.Best.{IsFree, free}
+use Rattle.lgm_route.specs.Preferred.{IsRouteBy, IsRestWithin, IsUsedUp, IsBeyond, no_preferences}
+use Rattle.lgm_route.specs.inner.Best.{IsFree}
 use Rattle.lgm_route.proofs.Orders.{NotAfter-excludes}
 use Rattle.lgm_route.proofs.Rests.{penalty_at-rises}
 use Rattle.lgm_route.proofs.PointWalkLaws.{free_found}
 use Rattle.lgm_route.proofs.Visits.{Rises, preferred-unique}
-use Rattle.lgm_route.proofs.ChoiceLaws.{le_true, true_le, usable_found, found_usable, folded, NoneBefore, point_apart, tried, HaveSame, same-permuted, usable_over}
+use Rattle.lgm_route.proofs.ChoiceLaws.{le_true, true_le, usable_found, found_usable, folded, NoneBefore, point_apart, tried, HaveSame, same-permuted, rest_over, usable_over}
 
 -- ---- the walks within the limits
 
@@ -236,3 +236,25 @@ beyond_reordered limits edges others request order is = (
   where
     same : HaveSame edges others
     same = same-permuted edges others order
+
+pub used_reordered : (limits : RouteLimits) (edges others : List PointEdge) (request : Request) (budget : SearchBudget)
+    → IsPermutation others edges → IsUsedUp limits edges request budget → IsUsedUp limits others request budget
+used_reordered limits edges others request budget order (inr steps) = inr steps
+used_reordered limits edges others request budget order (inl is) =
+    inl (
+      is.0,
+      record {
+        rests = is.1.rests;
+        many = is.1.many;
+        within = λ i d in_range. over (is.1.within i d in_range);
+        different = is.1.different;
+      },
+    )
+  where
+    over : {rest : List PointEdge} → IsRestWithin limits edges request rest → IsRestWithin limits others request rest
+    over {rest} h = record {
+      node = h.node;
+      joins = rest_over edges others request h.node rest (λ edge. (same-permuted edges others order edge).0) h.joins;
+      short = h.short;
+      in_time = h.in_time;
+    }

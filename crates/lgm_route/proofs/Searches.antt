@@ -11,12 +11,14 @@ use Rattle.lgm_route.specs.inner.Bounding.{AreLow}
 use Rattle.lgm_route.specs.inner.Numbered.{sent, IsUsable, IsLeast}
 use Rattle.lgm_route.specs.inner.Searching.{Low, cost, label_at, edge_at, Spells, first_of, bound_of, number_at, IsSettled, AreLabels, IsFound}
 use Rattle.lgm_route.specs.inner.Searching.{Grows, IsOffered, IsBetter, RelaxesOn, AreSpelled, SomeRest, IsNoBetter, IsDominatorOf, IsUpperBound}
+use Rattle.lgm_route.specs.inner.Fronts.{Fronts, HaveFronts, AreNewFronts, AreDistinct}
 use Rattle.lgm_route.specs.inner.Relaxations.{IsRelaxationOf, AreRelaxations}
 use Rattle.lgm_route.specs.inner.SearchState.{Ground, SearchState, state_of, IsGround, IsSearch, Extends, IsHalted, IsSettledAt, IsMarkedAt}
 use Rattle.lgm_route.specs.inner.SearchState.{AreRelaxationsAt, IsRelaxedOn, IsLeftAt, IsFinished, bound_in}
 use Rattle.lgm_route.proofs.Rests.{trichotomy}
 use Rattle.lgm_route.proofs.Labels.{grows-refl, grows-trans, found-grows, no_better-grows, none_better}
 use Rattle.lgm_route.proofs.Steps.{still_settled, settled_left, settled_hopeless}
+use Rattle.lgm_route.proofs.FrontLaws.{fronts_new}
 use Rattle.lgm_route.proofs.Endings.{least_of, usable_of}
 use Rattle.lgm_route.proofs.Steps.{settled_for, passes_from, passes_later, all_passed, spelled_labels}
 use Rattle.lgm_route.proofs.RelaxationLaws.{leads_later, led_later, all_taken}
@@ -81,15 +83,19 @@ left_all a b i ground passed =
 -- ---- what the fields of a search preserve
 
 -- more labels, and a better walk
-pub search_grown : (s : SearchState) (labels : List Label) (best : Option Label) → IsSearch s → AreLabels s.ground.graph s.ground.request labels →
+pub search_grown : (s : SearchState) (labels : List Label) (best : Option Label) (fronts : Fronts) → IsSearch s
+    → AreLabels s.ground.graph s.ground.request labels →
     IsFound s.ground.graph s.ground.request labels s.ground.upper_bound best
-    → Grows s.ground.graph s.ground.request s.ground.upper_bound s.labels s.best labels best →
-    IsSearch (record s { labels = labels; best = best })
-search_grown s labels best is labelled found grows = record {
+    → Grows s.ground.graph s.ground.request s.ground.upper_bound s.labels s.best labels best
+    → HaveFronts s.ground.graph s.ground.request labels fronts → AreDistinct s.ground.graph s.ground.request labels →
+    IsSearch (record s { labels = labels; best = best; fronts = fronts })
+search_grown s labels best fronts is labelled found grows have distinct = record {
   ground = is.ground;
   labelled = labelled;
   found = found;
   settled = still_settled s.ground.graph s.ground.request s.ground.low s.ground.upper_bound s.labels s.best labels best s.done grows is.settled;
+  fronts = have;
+  distinct = distinct;
 }
 
 -- a label was offered
@@ -103,17 +109,20 @@ offered_grows s new labels offered = record {
       (no_better-grows s.ground.graph s.ground.request s.labels offered.more s.ground.upper_bound s.best walk h);
 }
 
-pub search_offered : (s : SearchState) (new : Label) (labels : List Label) → IsSearch s → IsOffered s.ground.graph s.ground.request s.labels new labels →
-    IsSearch (record s { labels = labels })
-search_offered s new labels is offered =
-    search_grown s labels s.best is offered.labelled
+pub search_offered : (s : SearchState) (new : Label) (labels : List Label) (fronts : Fronts) → IsSearch s
+    → IsOffered s.ground.graph s.ground.request s.labels new labels
+    → HaveFronts s.ground.graph s.ground.request labels fronts → AreDistinct s.ground.graph s.ground.request labels →
+    IsSearch (record s { labels = labels; fronts = fronts })
+search_offered s new labels fronts is offered have distinct =
+    search_grown s labels s.best fronts is offered.labelled
     (subst (λ ls. IsFound s.ground.graph s.ground.request ls s.ground.upper_bound s.best) (sym offered.is)
     (found-grows s.ground.graph s.ground.request s.labels offered.more s.ground.upper_bound s.best is.found))
-    (offered_grows s new labels offered)
+    (offered_grows s new labels offered) have distinct
 
-pub extends_offered : (s : SearchState) (new : Label) (labels : List Label) → IsOffered s.ground.graph s.ground.request s.labels new labels →
-    Extends s (record s { labels = labels })
-extends_offered s new labels offered = record { ground = refl; grows = offered_grows s new labels offered; still = λ i h. h }
+pub extends_offered : (s : SearchState) (new : Label) (labels : List Label) (fronts : Fronts)
+    → IsOffered s.ground.graph s.ground.request s.labels new labels →
+    Extends s (record s { labels = labels; fronts = fronts })
+extends_offered s new labels fronts offered = record { ground = refl; grows = offered_grows s new labels offered; still = λ i h. h }
 
 -- a walk became the best, or not
 pub better_grows : (s : SearchState) (new : Label) (best : Option Label)
@@ -126,7 +135,8 @@ better_grows s new best better =
 pub search_better : (s : SearchState) (new : Label) (best : Option Label) → IsSearch s
     → IsBetter s.ground.graph s.ground.request s.labels s.ground.upper_bound s.best new best →
     IsSearch (record s { best = best })
-search_better s new best is better = search_grown s s.labels best is is.labelled better.found_is (better_grows s new best better)
+search_better s new best is better =
+    search_grown s s.labels best s.fronts is is.labelled better.found_is (better_grows s new best better) is.fronts is.distinct
 
 pub extends_better : (s : SearchState) (new : Label) (best : Option Label)
     → IsBetter s.ground.graph s.ground.request s.labels s.ground.upper_bound s.best new best →
@@ -209,13 +219,15 @@ pub begun : (graph : Graph) (request : Ask) (low : Low) (upper_bound : ℕ) (bud
     IsUpperBound (edges graph) request upper_bound →
     (labels : List Label)
     → labels ≡ record { amount = request.amount; penalty = 0; parent = 0; at = 0; node = request.payee; hops = 0; delay = 0 } ∷ []
-    → (done : List Bool) → done ≡ [] →
-    IsSearch (state_of graph request low upper_bound budget labels None done)
-begun graph request low upper_bound budget hops listed long are_low small upper labels one done none = record {
+    → (fronts : Fronts) → AreNewFronts fronts → (done : List Bool) → done ≡ [] →
+    IsSearch (state_of graph request low upper_bound budget labels None fronts done)
+begun graph request low upper_bound budget hops listed long are_low small upper labels one fronts new done none = record {
   ground = record { hops = hops; listed = listed; long = long; low = are_low; small = small; upper_bound = upper };
   labelled = rw one first;
   found = tt;
   settled = rw none (λ i h. absurd (no i h));
+  fronts = rw one (λ few. fronts_new graph request label fronts (sound 0 (omega arith)) new);
+  distinct = rw one alone;
 }
   where
     no : (i : ℕ) → get_or [] i false ≡ true → ⊥
@@ -227,6 +239,9 @@ begun graph request low upper_bound budget hops listed long are_low small upper 
     sound : (i : ℕ) → i < length (label ∷ []) → SomeRest graph request (label ∷ []) (label_at (label ∷ []) i)
     sound zero within = ([], record { spells = tt; long = refl; joins = refl; owes = refl; spends = refl; waits = refl; in_time = omega arith })
     sound (suc i) within = absurd (omega arith)
+
+    alone : AreDistinct graph request (label ∷ [])
+    alone i j rest before within = absurd (omega arith)
 
     few : (i : ℕ) → i < length (label ∷ []) → (label_at (label ∷ []) i).hops < request.hops
     few zero within = omega (arith, hops)

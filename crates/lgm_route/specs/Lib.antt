@@ -4,4 +4,5 @@ pub mod Choice
 pub mod Words
 pub mod Odds
 pub mod Preferred
+pub mod Reasons
 pub mod inner

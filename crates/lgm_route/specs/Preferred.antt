@@ -1,8 +1,9 @@
 -- The best walk by what its payer prefers, within limits: by relation and by exhaustive search.
-use Rattle.std.specs.Prelude.{◌≡◌, ◌⊎◌, ℕ, ◌+◌, ◌-◌, ◌^◌, ◌<◌, ◌≤◌, Bool, true, false, ◌&&◌, nat_le, List, [], ◌∷◌, length, filter, Option, None, Some, Result, Ok, Err}
+use Rattle.std.specs.Prelude.{◌≡◌, ◌≢◌, ◌⊎◌, ℕ, ◌+◌, ◌-◌, ◌^◌, ◌<◌, ◌≤◌, Bool, true, false, ◌&&◌, nat_le, min, List, [], ◌∷◌, length, filter, All, AllPairs, Option, None, Some, Result, Ok, Err}
 use Rattle.std.specs.declared.cmp.Ordering.TheVariants.{Less}
 use Rattle.std.specs.Ordering.{nat_cmp}
 use Rattle.std.specs.Cmp.Lexicographic.{slice_cmp}
+use Rattle.lgm_wire.specs.declared.point.Point.{Point}
 use Rattle.lgm_graph.specs.Edges.{PointEdge, AreKeyed}
 use Rattle.lgm_graph.specs.Estimates.{Entries, estimate_of}
 use Rattle.lgm_graph.specs.declared.route.Hop.{Hop}
@@ -15,7 +16,7 @@ use Rattle.lgm_route.specs.declared.fault.RouteFault.TheVariants.{NoRoute, NoMem
 use Rattle.lgm_route.specs.declared.found.Found.{Found}
 use Rattle.lgm_route.specs.declared.found.SearchFault.{SearchFault}
 use Rattle.lgm_route.specs.declared.found.SearchFault.TheVariants.{Fault, Undecided}
-use Rattle.lgm_route.specs.Routes.{owed, due, ids, IsUsable, IsLeast, hops_of}
+use Rattle.lgm_route.specs.Routes.{owed, due, ids, IsRest, IsUsable, IsLeast, hops_of}
 use Rattle.lgm_route.specs.Odds.{penalty_by}
 use Rattle.lgm_route.specs.Answers.{refusal}
 use Rattle.lgm_route.specs.Choice.{usable_walks, least_of, answer_by, answer_of}
@@ -140,6 +141,32 @@ IsCutShort (Err (Fault fault)) = ⊥
 -- there is a maximum of labels, or of steps
 abbrev pub IsBounded : SearchBudget → Type 0
 IsBounded budget = (budget.most_labels < 2 ^ 64 - 1) ⊎ (budget.most_steps < 2 ^ 64 - 1)
+
+-- the blocks of these edges are no more than the limit, if there is one
+abbrev pub IsDueIn : Option ℕ → List PointEdge → Type 0
+IsDueIn None rest = Unit {0}
+IsDueIn (Some most) rest = due 0 rest ≤ most
+
+-- the rest of a walk within the limits: consecutive edges from some node to the payee, each of which can carry what those
+-- after it need. The payer's own comes before them, so they are fewer than a walk may have, and the blocks of all count
+pub record IsRestWithin (limits : RouteLimits) (edges : List PointEdge) (request : Request) (rest : List PointEdge) : Type 0 where
+  pub node : Point
+  pub joins : IsRest edges request node rest
+  pub short : length rest < min limits.most_hops 20
+  pub in_time : IsDueIn limits.most_delay rest
+
+-- there are at least so many different ones
+pub record HaveRests (limits : RouteLimits) (edges : List PointEdge) (request : Request) (count : ℕ) : Type 0 where
+  pub rests : List (List PointEdge)
+  pub many : count ≤ length rests
+  pub within : All (IsRestWithin limits edges request) rests
+  pub different : AllPairs (λ rest other. rest ≢ other) rests
+
+-- the budget can run out: there are as many rests as there may be labels, or 2^32; or there is a maximum of steps
+abbrev pub IsUsedUp : RouteLimits → List PointEdge → Request → SearchBudget → Type 0
+IsUsedUp limits edges request budget =
+    ((budget.most_labels < 2 ^ 64 - 1) × HaveRests limits edges request (min budget.most_labels (2 ^ 32)))
+    ⊎ (budget.most_steps < 2 ^ 64 - 1)
 
 -- the walk that sends least of all isn't within the limits
 abbrev pub IsBeyond : RouteLimits → List PointEdge → Request → Type 0

@@ -3,7 +3,7 @@
 ghost use Rattle.std.specs.Prelude.{◌≡◌, ◌^◌, ◌≤◌, ◌+◌, ◌<◌, true, false, if◌then◌else◌};
 ghost use Rattle.lgm_route.specs.inner.Numbered.{asked};
 ghost use Rattle.lgm_route.specs.inner.Searching.{Begins, first_of, IsSpelled, IdsFirst, bound_of, IsFound};
-ghost use Rattle.lgm_route.specs.inner.Searching.{DoesDominate, SomeWalk, IsBetter, cost};
+ghost use Rattle.lgm_route.specs.inner.Searching.{IdsAfter, DoesDominate, DoesNotDominate, SomeWalk, IsBetter, cost};
 
 use crate::penalties::Penalties;
 use crate::request::NumberedRequest;
@@ -65,6 +65,7 @@ pub(crate) fn ids_first<V: RoutingGraph>(
     requires equal { label.now.hops ≡ other.now.hops }
     ensures first { result ≡ true → IdsFirst (V.graph view.now) labels.now label.now other.now }
     ensures after { result ≡ false → IdsFirst (V.graph view.now) labels.now other.now label.now }
+    ensures strictly { result ≡ false → IdsAfter (V.graph view.now) labels.now label.now other.now }
 {
     let mut here = *label;
     let mut there = *other;
@@ -95,7 +96,8 @@ pub(crate) fn dominates<V: RoutingGraph>(
 ) -> bool
     requires spelled { IsSpelled (V.graph view.now) labels.now label.now }
     requires also { IsSpelled (V.graph view.now) labels.now other.now }
-    ensures { result ≡ true → DoesDominate (V.graph view.now) labels.now label.now other.now }
+    ensures does { result ≡ true → DoesDominate (V.graph view.now) labels.now label.now other.now }
+    ensures does_not { result ≡ false → DoesNotDominate (V.graph view.now) labels.now label.now other.now }
 {
     let (cost, also) = (label.cost(), other.cost());
     if other.hops < label.hops

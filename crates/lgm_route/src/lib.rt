@@ -18,6 +18,7 @@ mod label;
 mod laws;
 mod layers;
 mod limits;
+mod no_route;
 mod numbering;
 mod pareto_fronts;
 mod penalties;
@@ -26,9 +27,11 @@ mod preferred;
 mod queue;
 mod quickest;
 mod reached_nodes;
+mod reasons;
 mod relaxation;
 mod request;
 mod search;
+mod sought;
 mod walks;
 
 pub use answers::{answer, answer_chunked, answer_over, answer_over_chunked};
@@ -40,6 +43,8 @@ pub use laws::{
 };
 pub use lgm_graph::{Hop, Route, RoutingGraph};
 pub use limits::{RouteLimits, SearchBudget};
+pub use no_route::NoRouteReason;
 pub use preferences::Preferences;
 pub use preferred::{answer_preferred, preferred_in};
+pub use reasons::{no_route_reason, no_route_reason_in};
 pub use request::Request;

@@ -2,6 +2,7 @@
 
 ghost use Rattle.std.specs.Prelude.{◌≡◌, ◌-◌, ◌^◌};
 ghost use Rattle.lgm_route.specs.Preferred.{no_limits};
+ghost use Rattle.lgm_route.specs.Reasons.{delay_alone, hops_alone};
 
 /// Limits of a payment's route.
 #[derive(Clone, Copy, Debug, PartialEq, Eq)]
@@ -21,6 +22,26 @@ impl RouteLimits {
         RouteLimits {
             most_delay: None,
             most_hops: 20,
+        }
+    }
+
+    /// The limit of the delay alone.
+    pub(crate) fn delay_alone(&self) -> RouteLimits
+        ensures { result ≡ delay_alone self.now }
+    {
+        RouteLimits {
+            most_delay: self.most_delay,
+            most_hops: 20,
+        }
+    }
+
+    /// The limit of the hops alone.
+    pub(crate) fn hops_alone(&self) -> RouteLimits
+        ensures { result ≡ hops_alone self.now }
+    {
+        RouteLimits {
+            most_delay: None,
+            most_hops: self.most_hops,
         }
     }
 }

@@ -5,7 +5,7 @@ ghost use Rattle.lgm_graph.specs.Edges.{PointEdge};
 ghost use Rattle.lgm_graph.specs.Graph.{IsGraphOf, point_edges};
 ghost use Rattle.lgm_graph.specs.Overlay.{overlaid_edges};
 ghost use Rattle.lgm_route.specs.Answers.{refusal};
-ghost use Rattle.lgm_route.specs.Preferred.{IsRouteBy, IsPreferredAnswer, IsCutShort, IsBounded, IsBeyond};
+ghost use Rattle.lgm_route.specs.Preferred.{IsRouteBy, IsPreferredAnswer, IsCutShort, IsBounded, IsUsedUp, IsBeyond};
 ghost use Rattle.lgm_route.specs.Preferred.{penalty_at, no_preferences, preferred_answer};
 ghost use Rattle.lgm_route.specs.inner.Best.{AreAlike, IsFree, hops_within};
 ghost use Rattle.lgm_route.specs.declared.fault.RouteFault.{RouteFault};
@@ -50,6 +50,7 @@ fn found_within<V: RoutingGraph, P: Penalties>(
         → IsRouteBy (IsPreferredAnswer penalty limits.now (point_edges (V.graph graph.now)) request.now) limits.now
         (point_edges (V.graph graph.now)) request.now result }
     ensures bounded { IsCutShort result → IsBounded budget.now }
+    ensures used_up { IsCutShort result → IsUsedUp limits.now (point_edges (V.graph graph.now)) request.now budget.now }
 {
     // The contract of `nodes` says that the nodes of edges are numbered.
     let _nodes = graph.nodes();
@@ -75,6 +76,7 @@ fn plain_within<V: RoutingGraph>(
         → IsRouteBy (IsPreferredAnswer penalty limits.now (point_edges (V.graph graph.now)) request.now) limits.now
         (point_edges (V.graph graph.now)) request.now result }
     ensures bounded { IsCutShort result → IsBounded budget.now }
+    ensures used_up { IsCutShort result → IsUsedUp limits.now (point_edges (V.graph graph.now)) request.now budget.now }
     ensures beyond { IsCutShort result → IsBeyond limits.now (point_edges (V.graph graph.now)) request.now }
 {
     let route = least_in(alloc, graph, request)?;
@@ -101,6 +103,7 @@ fn weighed_within<V: RoutingGraph>(
     ensures answer { IsRouteBy (IsPreferredAnswer (penalty_at weights.entry.preferences weights.entry.estimates.now) limits.now
         (point_edges (V.graph graph.now)) request.now) limits.now (point_edges (V.graph graph.now)) request.now result }
     ensures bounded { IsCutShort result → IsBounded budget.now }
+    ensures used_up { IsCutShort result → IsUsedUp limits.now (point_edges (V.graph graph.now)) request.now budget.now }
 {
     if limits.most_hops < 20 || limits.most_delay.is_some() {
         match found_within(alloc, graph, request, &RouteLimits::none(), weights, budget) {
@@ -138,6 +141,7 @@ pub fn preferred_in<V: RoutingGraph>(
     ensures answer { IsRouteBy (IsPreferredAnswer (penalty_at preferences.now estimates.now) limits.now
         (point_edges (V.graph graph.now)) request.now) limits.now (point_edges (V.graph graph.now)) request.now result }
     ensures bounded { IsCutShort result → IsBounded budget.now }
+    ensures used_up { IsCutShort result → IsUsedUp limits.now (point_edges (V.graph graph.now)) request.now budget.now }
     ensures beyond { preferences.now ≡ no_preferences → estimates.now ≡ [] → IsCutShort result
         → IsBeyond limits.now (point_edges (V.graph graph.now)) request.now }
 {
@@ -172,6 +176,8 @@ pub fn answer_preferred(
         let penalty = penalty_at preferences.now estimates.now in
         IsRouteBy (λ answer. answer ≡ preferred_answer penalty limits.now edges request.now) limits.now edges request.now result }
     ensures bounded { IsCutShort result → IsBounded budget.now }
+    ensures used_up { IsCutShort result
+        → IsUsedUp limits.now (overlaid_edges view.now.known map.now overlay.now) request.now budget.now }
     ensures beyond { preferences.now ≡ no_preferences → estimates.now ≡ [] → IsCutShort result
         → IsBeyond limits.now (overlaid_edges view.now.known map.now overlay.now) request.now }
 {

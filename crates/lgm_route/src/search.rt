@@ -56,10 +56,10 @@ impl<'a, V: RoutingGraph, P: Penalties> Model for Search<'a, V, P> {
 
     ghost Value = { SearchState };
 
-    ghost view = { λ s. state_of (V.graph s.view.now) (asked (P.terms s.request.penalties) s.request) s.low s.upper_bound s.budget s.labels.items s.best s.done.items };
+    ghost view = { λ s. state_of (V.graph s.view.now) (asked (P.terms s.request.penalties) s.request) s.low s.upper_bound s.budget s.labels.items s.best s.fronts s.done.items };
 
     ghost invariant = { λ s. IsSearch
-        (state_of (V.graph s.view.now) (asked (P.terms s.request.penalties) s.request) s.low s.upper_bound s.budget s.labels.items s.best s.done.items) };
+        (state_of (V.graph s.view.now) (asked (P.terms s.request.penalties) s.request) s.low s.upper_bound s.budget s.labels.items s.best s.fronts s.done.items) };
 }
 
 /// The label without edges.

@@ -3,7 +3,7 @@
 ghost use Rattle.std.specs.Prelude.{◌≡◌, ◌≤◌, ◌^◌, IfOk, IfErr};
 ghost use Rattle.std.specs.Option.{option_map};
 ghost use Rattle.lgm_graph.specs.Graph.{edges, AreListed};
-ghost use Rattle.lgm_route.specs.inner.Best.{IsBestWalk, IsWalkFound};
+ghost use Rattle.lgm_route.specs.inner.Best.{IsBestWalk, IsWalkFound, IsCutShort, IsUsedUp};
 ghost use Rattle.lgm_route.specs.inner.Numbered.{asked};
 ghost use Rattle.lgm_route.specs.inner.SearchState.{IsBegun, IsFinished, IsHalted};
 ghost use Rattle.lgm_route.specs.inner.Searching.{IsUpperBound};
@@ -64,7 +64,9 @@ pub(crate) fn walk_within<V: RoutingGraph, P: Penalties>(
     budget: &SearchBudget,
 ) -> Result<WalkFound, SearchFault>
     requires { (1 ≤ request.now.most_hops) × (request.now.most_hops ≤ 20) }
-    ensures { IsWalkFound (edges (V.graph view.now)) (asked (P.terms request.now.penalties) request.now) budget.now result }
+    ensures found { IsWalkFound (edges (V.graph view.now)) (asked (P.terms request.now.penalties) request.now) budget.now result }
+    ensures used_up { IsCutShort result
+        → IsUsedUp (edges (V.graph view.now)) (asked (P.terms request.now.penalties) request.now) budget.now }
 {
     let mut search = begin(alloc, view, request, *budget)?;
     match finish_within(alloc, &mut search) {
@@ -75,13 +77,19 @@ pub(crate) fn walk_within<V: RoutingGraph, P: Penalties>(
             }),
             None => Err(SearchFault::Fault(RouteFault::NoRoute)),
         },
-        Err(Halt::NoMemory) => Err(SearchFault::Fault(RouteFault::NoMemory)),
-        Err(_) => match search.best_walk(alloc)? {
-            Some(walk) => Ok(WalkFound {
-                walk,
-                is_best: false,
-            }),
-            None => Err(SearchFault::Undecided),
+        Err(halt) => match halt {
+            Halt::NoMemory => Err(SearchFault::Fault(RouteFault::NoMemory)),
+            _ => {
+                // The contract of `len` says that no two labels represent one rest.
+                let _len = search.len();
+                match search.best_walk(alloc)? {
+                    Some(walk) => Ok(WalkFound {
+                        walk,
+                        is_best: false,
+                    }),
+                    None => Err(SearchFault::Undecided),
+                }
+            }
         },
     }
 }

@@ -1,5 +1,5 @@
 -- The result of the search: the best walk over numbered edges, whose amount fits 64 bits.
-use Rattle.std.specs.Prelude.{◌≡◌, ◌⊎◌, ℕ, ◌+◌, ◌<◌, ◌≤◌, ◌^◌, min, Bool, true, false, ◌&&◌, nat_le, List, Option, Some, None, Result, Ok, Err, map, length, slice_index_or}
+use Rattle.std.specs.Prelude.{◌≡◌, ◌≢◌, ◌⊎◌, ℕ, ◌+◌, ◌-◌, ◌<◌, ◌≤◌, ◌^◌, min, All, AllPairs, Bool, true, false, ◌&&◌, nat_le, List, Option, Some, None, Result, Ok, Err, map, length, slice_index_or}
 use Rattle.std.specs.List.{AllByRecursion, position}
 use Rattle.lgm_wire.specs.declared.point.Point.{Point}
 use Rattle.lgm_graph.specs.Edges.{PointEdge}
@@ -9,7 +9,7 @@ use Rattle.lgm_store.specs.Rows.{is_point}
 use Rattle.lgm_route.specs.declared.request.Request.{Request}
 use Rattle.lgm_graph.specs.declared.route.Hop.{Hop}
 use Rattle.lgm_route.specs.inner.Numbered.{Ask, Terms, penalty_of}
-use Rattle.lgm_route.specs.inner.Numbered.{sent, IsUsable, IsLeast}
+use Rattle.lgm_route.specs.inner.Numbered.{sent, delay, most_delay, IsRest, IsUsable, IsLeast}
 use Rattle.lgm_graph.specs.Route.{expiry}
 use Rattle.lgm_route.specs.Routes as routes
 use Rattle.lgm_route.specs.Preferred.{IsWithin, IsBounded}
@@ -103,6 +103,26 @@ is_timely (Some most) height hops = nat_le (expiry hops) (height + most)
 abbrev pub hops_within : RouteLimits → ℕ → List Hop → Bool
 hops_within limits height hops = nat_le (length hops) limits.most_hops && is_timely limits.most_delay height hops
 
+-- the rest of a walk: edges from some node to the payee, fewer than a walk may have, whose delay is within the limit
+pub record IsRestWithin (edges : List Edge) (request : Ask) (rest : List Edge) : Type 0 where
+  pub node : ℕ
+  pub joins : IsRest edges request node rest
+  pub short : length rest < request.hops
+  pub in_time : delay request.limit rest ≤ most_delay request.limit
+
+-- there are at least so many different ones
+pub record HaveRests (edges : List Edge) (request : Ask) (count : ℕ) : Type 0 where
+  pub rests : List (List Edge)
+  pub many : count ≤ length rests
+  pub within : All (IsRestWithin edges request) rests
+  pub different : AllPairs (λ rest other. rest ≢ other) rests
+
+-- the budget can run out: there are as many as there may be labels, or 2^32; or there is a maximum of steps
+abbrev pub IsUsedUp : List Edge → Ask → SearchBudget → Type 0
+IsUsedUp edges request budget =
+    ((budget.most_labels < 2 ^ 64 - 1) × HaveRests edges request (min budget.most_labels (2 ^ 32)))
+    ⊎ (budget.most_steps < 2 ^ 64 - 1)
+
 -- what a search within a budget found: a usable walk, the best one unless the budget ran out; or that none is usable
 abbrev pub IsWalkFound : List Edge → Ask → SearchBudget → Result WalkFound SearchFault → Type 0
 IsWalkFound edges request budget (Ok found) =
@@ -111,3 +131,9 @@ IsWalkFound edges request budget (Ok found) =
 IsWalkFound edges request budget (Err Undecided) = IsBounded budget
 IsWalkFound edges request budget (Err (Fault fault)) =
     (fault ≡ NoMemory) ⊎ ((fault ≡ NoRoute) × ((walk : List Edge) → IsUsable edges request walk → ⊥))
+
+-- a better walk may be usable: the budget ran out
+abbrev pub IsCutShort : Result WalkFound SearchFault → Type 0
+IsCutShort (Ok found) = found.is_best ≡ false
+IsCutShort (Err Undecided) = Unit {0}
+IsCutShort (Err (Fault fault)) = ⊥

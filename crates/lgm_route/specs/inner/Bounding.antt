@@ -1,5 +1,5 @@
 -- Lower bounds on the fees and the delays from the payer to each node, and the forward search that computes them.
-use Rattle.std.specs.Prelude.{◌≡◌, ◌⊎◌, ℕ, ◌+◌, ◌-◌, ◌<◌, ◌≤◌, min, List, length}
+use Rattle.std.specs.Prelude.{◌≡◌, ◌⊎◌, ℕ, ◌+◌, ◌<◌, ◌≤◌, min, List, length}
 use Rattle.std.specs.Prelude.{map, Contains, Bool, true, slice_index_or, false}
 use Rattle.lgm_graph.specs.Fee.{fee_of}
 use Rattle.lgm_graph.specs.declared.edge.Edge.{Edge}

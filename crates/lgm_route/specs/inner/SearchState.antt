@@ -11,6 +11,7 @@ use Rattle.lgm_route.specs.inner.Numbered.{IsUsable}
 use Rattle.lgm_route.specs.inner.Bounding.{AreLow}
 use Rattle.lgm_route.specs.inner.Searching.{Low, label_at, number_at, cost, bound_of, IsSettled, AreLabels, IsFound, Grows}
 use Rattle.lgm_route.specs.inner.Searching.{RelaxesOn, RelaxesAll, AreSettled, IsNoBetter, IsUpperBound}
+use Rattle.lgm_route.specs.inner.Fronts.{Fronts, HaveFronts, AreDistinct}
 use Rattle.lgm_route.specs.inner.Relaxations.{IsInto, IsRelaxation, AreRelaxations}
 
 -- the edges, the request, lower bounds from the payer to each node, and an upper bound on the best walk
@@ -22,18 +23,20 @@ pub record Ground : Type 0 where
   -- what may be spent
   pub budget : SearchBudget
 
--- the labels, the best walk so far, and which labels are settled
+-- the labels, the best walk so far, the fronts, and which labels are settled
 pub record SearchState : Type 0 where
   pub ground : Ground
   pub labels : List Label
   pub best : Option Label
+  pub fronts : Fronts
   pub done : List Bool
 
-abbrev pub state_of : Graph → Ask → Low → ℕ → SearchBudget → List Label → Option Label → List Bool → SearchState
-state_of graph request low upper_bound budget labels best done = record {
+abbrev pub state_of : Graph → Ask → Low → ℕ → SearchBudget → List Label → Option Label → Fronts → List Bool → SearchState
+state_of graph request low upper_bound budget labels best fronts done = record {
   ground = record { graph = graph; request = request; low = low; upper_bound = upper_bound; budget = budget };
   labels = labels;
   best = best;
+  fronts = fronts;
   done = done;
 }
 
@@ -45,13 +48,15 @@ pub record IsGround (ground : Ground) : Type 0 where
   pub small : ground.upper_bound ≤ 2 ^ 65
   pub upper_bound : IsUpperBound (edges ground.graph) ground.request ground.upper_bound
 
--- labels represent rests, the best walk is one, and marked labels are settled
+-- labels represent different rests, the best walk is one, and marked labels are settled
 pub record IsSearch (state : SearchState) : Type 0 where
   pub ground : IsGround state.ground
   pub labelled : AreLabels state.ground.graph state.ground.request state.labels
   pub found : IsFound state.ground.graph state.ground.request state.labels state.ground.upper_bound state.best
   pub settled : AreSettled state.ground.graph state.ground.request state.ground.low state.ground.upper_bound
       state.labels state.best state.done
+  pub fronts : HaveFronts state.ground.graph state.ground.request state.labels state.fronts
+  pub distinct : AreDistinct state.ground.graph state.ground.request state.labels
 
 -- the same search later: labels were added, the best walk is no worse, and what was marked still is
 pub record Extends (before after : SearchState) : Type 0 where

@@ -109,12 +109,25 @@ IdsFirst graph labels label other =
     (rest also : List Edge) → Spells graph labels label rest → Spells graph labels other also →
     length rest ≡ label.hops → length also ≡ other.hops → NotAfter (ids rest) (ids also)
 
+-- they come after those of another's
+abbrev pub IdsAfter : Graph → List Label → Label → Label → Type 0
+IdsAfter graph labels label other =
+    (rest also : List Edge) → Spells graph labels label rest → Spells graph labels other also →
+    length rest ≡ label.hops → length also ≡ other.hops → NotAfter (ids rest) (ids also) → ⊥
+
 -- the one label's rest dominates the other's
 abbrev pub DoesDominate : Graph → List Label → Label → Label → Type 0
 DoesDominate graph labels label other =
     (request : Ask) (rest also : List Edge) →
     IsLabel graph request labels label rest → IsLabel graph request labels other also
     → Dominates request rest also
+
+-- it doesn't
+abbrev pub DoesNotDominate : Graph → List Label → Label → Label → Type 0
+DoesNotDominate graph labels label other =
+    (request : Ask) (rest also : List Edge) →
+    IsLabel graph request labels label rest → IsLabel graph request labels other also
+    → Dominates request rest also → ⊥
 
 abbrev pub SomeRest : Graph → Ask → List Label → Label → Type 0
 SomeRest graph request labels label = (rest : List Edge) × IsLabel graph request labels label rest

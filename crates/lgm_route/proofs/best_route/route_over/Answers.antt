@@ -20,7 +20,7 @@ returns-in-None g c = λ penalty alike.
     inr (
       refl,
       none_over graph c.nodes-nodes.ensures.listed c.args.request.now numbered.payer numbered.payee is.0 is.1
-          c.args.limits.now terms penalty alike none,
+          c.args.limits.now terms none,
     )
 
 pub returns-in_ok-route-in-Some : goal.returns-in_ok-route-in-Some

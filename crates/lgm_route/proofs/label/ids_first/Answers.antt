@@ -1,7 +1,7 @@
 use Rattle.std.proofs.Common.{◌≡◌, ◌-◌, ◌+◌, ◌∙◌, ap, sym, subst, arith}
 use Rattle.std.proofs.Math.Nat.{sub-zero}
 use Rattle.lgm_route.specs.inner.Searching.{label_at}
-use Rattle.lgm_route.proofs.Chains.{AreBeside, beside_start, one, two, beside_less, beside_more, beside_next, beside_same, beside_end}
+use Rattle.lgm_route.proofs.Chains.{AreBeside, beside_start, one, two, beside_less, beside_more, beside_later, beside_next, beside_same, beside_end}
 use Rattle.lgm_route.proofs.label.ids_first.Goals as goal
 
 pub loop-step-init : goal.loop-step-init
@@ -37,6 +37,12 @@ returns-then-also-id-clause-after g c = λ e.
     let id = c.to_u64-id.ensures ∙ ap (λ l. l.scid) c.first_of.ensures in
     let also = c.to_u64-also.ensures ∙ ap (λ l. l.scid) c.first_of-in-loop-step.ensures in
     beside_more c.loop-step.invariant (omega (arith, c.loop-step-test.true)) (omega (arith, id, also, c.if-also-id.true))
+
+pub returns-then-also-id-clause-strictly : goal.returns-then-also-id-clause-strictly
+returns-then-also-id-clause-strictly g c = λ e.
+    let id = c.to_u64-id.ensures ∙ ap (λ l. l.scid) c.first_of.ensures in
+    let also = c.to_u64-also.ensures ∙ ap (λ l. l.scid) c.first_of-in-loop-step.ensures in
+    beside_later c.loop-step.invariant (omega (arith, c.loop-step-test.true)) (omega (arith, id, also, c.if-also-id.true))
 
 pub returns-then-here-there-clause-first : goal.returns-then-here-there-clause-first
 returns-then-here-there-clause-first g c = λ e.

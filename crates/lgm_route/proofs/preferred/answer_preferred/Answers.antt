@@ -2,8 +2,8 @@ use Rattle.std.proofs.Common.{◌≡◌, ◌∙◌, refl, sym, ap, subst, inr}
 use Rattle.lgm_graph.specs.Edges.{edges_of, AreKeyed}
 use Rattle.lgm_graph.specs.Graph.{point_edges}
 use Rattle.lgm_graph.specs.Overlay.{overlaid_edges}
-use Rattle.lgm_route.specs.Preferred.{penalty_at, preferred_answer, IsRouteBy, IsBeyond}
-use Rattle.lgm_route.proofs.PreferredLaws.{route_reordered, route_refused, beyond_reordered}
+use Rattle.lgm_route.specs.Preferred.{penalty_at, preferred_answer, IsRouteBy, IsUsedUp, IsBeyond}
+use Rattle.lgm_route.proofs.PreferredLaws.{route_reordered, route_refused, used_reordered, beyond_reordered}
 use Rattle.lgm_route.proofs.preferred.answer_preferred.Goals as goal
 
 pub returns-in-Some-clause-answer : goal.returns-in-Some-clause-answer
@@ -52,3 +52,20 @@ returns-clause-beyond c = λ none known cut.
     (overlaid_edges c.args.view.now.known c.args.map.now c.args.overlay.now) c.args.request.now
     (c.in_ok-over.ensures.edges c.args.map.now c.rows_are_lawful.ensures.ended c.requires.beside)
     (c.preferred_in-2.ensures.beyond none known cut)
+
+pub returns-then-is_empty-clause-used_up : goal.returns-then-is_empty-clause-used_up
+returns-then-is_empty-clause-used_up c = λ cut.
+    let rows = c.args.map.now in
+    let bits = c.args.view.now.known in
+    let same : overlaid_edges bits rows c.args.overlay.now ≡ edges_of bits rows =
+    ap (overlaid_edges bits rows) (c.if-is_empty.ensures refl) ∙ c.overlays_are_lawful.ensures.neutral bits rows in
+    subst (λ edges. IsUsedUp c.args.limits.now edges c.args.request.now c.args.budget.now) (sym same)
+    (used_reordered c.args.limits.now (point_edges c.args.view.now) (edges_of bits rows) c.args.request.now c.args.budget.now
+    (c.shows_the_edges.ensures.once rows c.requires.beside) (c.preferred_in.ensures.used_up cut))
+
+pub returns-clause-used_up : goal.returns-clause-used_up
+returns-clause-used_up c = λ cut.
+    used_reordered c.args.limits.now (point_edges c.in_ok-over.over)
+    (overlaid_edges c.args.view.now.known c.args.map.now c.args.overlay.now) c.args.request.now c.args.budget.now
+    (c.in_ok-over.ensures.edges c.args.map.now c.rows_are_lawful.ensures.ended c.requires.beside)
+    (c.preferred_in-2.ensures.used_up cut)

@@ -1,8 +1,7 @@
-use Rattle.std.proofs.Common.{◌≡◌, ◌∙◌, sym, inl, inr}
+use Rattle.std.proofs.Common.{◌∙◌, sym, inl, inr}
 use Rattle.std.specs.Prelude.{Ok}
 use Rattle.lgm_graph.specs.Graph.{point_edges, edge_between}
 use Rattle.lgm_route.specs.Answers.{IsAnswer}
-use Rattle.lgm_route.specs.Preferred.{no_limits}
 use Rattle.lgm_route.proofs.FoundRoutes.{answer_narrowed, plain_answer, plain_some, plain_beyond, some_narrowed}
 use Rattle.lgm_route.proofs.preferred.plain_within.Goals as goal
 

@@ -1,8 +1,7 @@
-use Rattle.std.proofs.Common.{◌≡◌, ◌∙◌, sym, subst, inl, inr}
+use Rattle.std.proofs.Common.{◌∙◌, sym, subst, inl, inr}
 use Rattle.std.specs.Prelude.{Some, Ok, Err}
-use Rattle.lgm_graph.specs.Edges.{PointEdge}
 use Rattle.lgm_graph.specs.Graph.{point_edges}
-use Rattle.lgm_route.specs.Preferred.{penalty_at, IsPreferredAnswer, IsRouteBy, no_limits}
+use Rattle.lgm_route.specs.Preferred.{penalty_at, IsPreferredAnswer, IsRouteBy}
 use Rattle.lgm_route.specs.inner.Numbered.{Terms}
 use Rattle.lgm_route.specs.inner.Best.{AreAlike}
 use Rattle.lgm_route.specs.declared.found.SearchFault.TheVariants.{Fault}

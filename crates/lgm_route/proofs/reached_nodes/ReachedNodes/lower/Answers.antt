@@ -1,4 +1,4 @@
-use Rattle.std.proofs.Common.{◌<◌, refl, ap, arith}
+use Rattle.std.proofs.Common.{◌<◌, ap, arith}
 use Rattle.lgm_route.specs.inner.Reaching.{fees_by, closed_by, fees_in}
 use Rattle.lgm_route.specs.inner.Searching.{number_at}
 use Rattle.lgm_route.proofs.ReachedLaws.{within_of, lowered_at}

@@ -1,4 +1,4 @@
-use Rattle.std.proofs.Common.{◌≡◌, ◌∙◌, ◌^◌, rules, ◌<◌, ◌+◌, ◌-◌, suc, length, sym, ap, arith}
+use Rattle.std.proofs.Common.{◌≡◌, ◌∙◌, ◌^◌, rules, ◌<◌, ◌+◌, ◌-◌, suc, length, ap, arith}
 use Rattle.lgm_route.specs.inner.Reaching.{Table, found}
 use Rattle.lgm_route.proofs.ReachedLaws.{place_is, place_is_not, place_within, within_in, few_nodes, more_placed, more_here, more_others, again_placed, again_here, again_others}
 use Rattle.lgm_route.proofs.reached_nodes.ReachedNodes.put.Goals as goal

@@ -11,14 +11,14 @@ pub find_dominator-found-requires-clause-spelled : goal.find_dominator-found-req
 find_dominator-found-requires-clause-spelled g c =
     let s : SearchState =
     state_of (g.V.RoutingGraph.graph c.self.inside.view.now) (asked (g.P.Penalties.terms c.self.inside.request.penalties) c.self.inside.request) c.self.inside.low c.self.inside.upper_bound c.self.inside.budget
-    c.self.inside.labels.items c.self.inside.best c.self.inside.done.items in
+    c.self.inside.labels.items c.self.inside.best c.self.inside.fronts c.self.inside.done.items in
     subst (AreSpelled s.ground.graph) (sym c.deref.ensures.value) (spelled s c.self.invariant)
 
 pub find_dominator-found-requires-clause-label : goal.find_dominator-found-requires-clause-label
 find_dominator-found-requires-clause-label g c =
     let s : SearchState =
     state_of (g.V.RoutingGraph.graph c.self.inside.view.now) (asked (g.P.Penalties.terms c.self.inside.request.penalties) c.self.inside.request) c.self.inside.low c.self.inside.upper_bound c.self.inside.budget
-    c.self.inside.labels.items c.self.inside.best c.self.inside.done.items in
+    c.self.inside.labels.items c.self.inside.best c.self.inside.fronts c.self.inside.done.items in
     let within : c.args.i < length s.labels = subst (λ t. c.args.i < length t.labels) (sym c.self.view_is) c.requires in
     let at : label_at s.labels c.args.i ≡ c.index.result.now =
     get_or_default s.labels c.args.i no_label c.index.result.now within ∙ sym c.index.ensures in

@@ -1,0 +1,160 @@
+//! The reason why a payment has no route within limits.
+
+ghost use Rattle.std.specs.Prelude.{◌≡◌, ◌+◌, ◌*◌, ◌^◌, ◌<◌, Some, None, Err, length, true, false, IfOk, IfErr, MatchOption};
+ghost use Rattle.lgm_graph.specs.Graph.{IsGraphOf, point_edges};
+ghost use Rattle.lgm_graph.specs.Overlay.{overlaid_edges};
+ghost use Rattle.lgm_route.specs.Answers.{refusal};
+ghost use Rattle.lgm_route.specs.Reasons.{HasRoute, HasNone, IsExplained, IsReason, IsUnexplained, NoneBefore};
+ghost use Rattle.lgm_route.specs.Reasons.{delay_alone, hops_alone};
+ghost use Rattle.lgm_route.specs.Preferred.{no_preferences};
+ghost use Rattle.lgm_route.specs.inner.Seeking.{unless_no_route};
+ghost use Rattle.lgm_route.specs.declared.limits.RouteLimits.{RouteLimits as Limits};
+
+use crate::fault::RouteFault;
+use crate::found::SearchFault;
+use crate::limits::{RouteLimits, SearchBudget};
+use crate::no_route::NoRouteReason;
+use crate::preferences::Preferences;
+use crate::preferred::preferred_in;
+use crate::request::Request;
+use crate::sought::{Sought, any_sought};
+use lgm_graph::{Estimates, Overlay, OverlayView, RoutingGraph, View, overlays_are_lawful};
+use lgm_store::Map;
+use std::alloc::Global;
+
+/// Whether a usable walk is within limits.
+fn has_route<V: RoutingGraph>(
+    alloc: Global,
+    graph: &V,
+    request: &Request,
+    limits: &RouteLimits,
+    budget: &SearchBudget,
+) -> Result<bool, SearchFault>
+    requires { refusal request.now ≡ None }
+    ensures some { IfOk result (λ found. found ≡ true → HasRoute limits.now (point_edges (V.graph graph.now)) request.now) }
+    ensures none { IfOk result (λ found. found ≡ false → HasNone limits.now (point_edges (V.graph graph.now)) request.now) }
+    ensures unknown { IfErr result (λ fault. IsUnexplained request.now budget.now fault) }
+{
+    let nothing = Estimates::new(alloc);
+    match preferred_in(
+        alloc,
+        graph,
+        &Preferences::none(),
+        &nothing,
+        request,
+        limits,
+        budget,
+    ) {
+        Ok(_found) => Ok(true),
+        Err(SearchFault::Undecided) => Err(SearchFault::Undecided),
+        Err(SearchFault::Fault(fault)) => unless_no_route(fault),
+    }
+}
+
+/// That there is no route, or another fault.
+fn unless_no_route(fault: RouteFault) -> Result<bool, SearchFault>
+    ensures { result ≡ unless_no_route fault }
+{
+    match fault {
+        RouteFault::NoRoute => Ok(false),
+        fault => Err(SearchFault::Fault(fault)),
+    }
+}
+
+/// The reason at the ends of a payment, if there is one: the edges of the payer and those of the payee.
+fn reason_at_ends<V: RoutingGraph>(graph: &V, request: &Request) -> Option<NoRouteReason>
+    ensures { (limits : Limits) → MatchOption result
+        (NoneBefore 45 limits (point_edges (V.graph graph.now)) request.now)
+        (λ reason. IsReason reason limits (point_edges (V.graph graph.now)) request.now) }
+{
+    if !any_sought(graph, &Sought::from_payer(request)) {
+        return Some(NoRouteReason::PayerHasNoChannel);
+    }
+    if !any_sought(graph, &Sought::to_payee(request)) {
+        return Some(NoRouteReason::PayeeTakesNoPayment);
+    }
+    if !any_sought(graph, &Sought::amount_from_payer(request)) {
+        return Some(NoRouteReason::PayerLacksAmount);
+    }
+    if !any_sought(graph, &Sought::amount_to_payee(request)) {
+        return Some(NoRouteReason::PayeeLacksAmount);
+    }
+    None
+}
+
+/// The reason between the ends of a payment, if there is one. Each search has the whole budget.
+fn reason_between<V: RoutingGraph>(
+    alloc: Global,
+    graph: &V,
+    request: &Request,
+    limits: &RouteLimits,
+    budget: &SearchBudget,
+) -> Result<Option<NoRouteReason>, SearchFault>
+    requires allowed { refusal request.now ≡ None }
+    requires ends { NoneBefore 45 limits.now (point_edges (V.graph graph.now)) request.now }
+    ensures reason { IfOk result (λ found. IsExplained found limits.now (point_edges (V.graph graph.now)) request.now) }
+    ensures unknown { IfErr result (λ fault. IsUnexplained request.now budget.now fault) }
+{
+    if !has_route(alloc, graph, request, &RouteLimits::none(), budget)? {
+        return Ok(Some(NoRouteReason::Unconnected));
+    }
+    if !has_route(alloc, graph, request, &limits.delay_alone(), budget)? {
+        return Ok(Some(NoRouteReason::BeyondDelay));
+    }
+    if !has_route(alloc, graph, request, &limits.hops_alone(), budget)? {
+        return Ok(Some(NoRouteReason::BeyondHops));
+    }
+    if !has_route(alloc, graph, request, limits, budget)? {
+        return Ok(Some(NoRouteReason::BeyondBoth));
+    }
+    Ok(None)
+}
+
+/// Why a payment has no route within limits over the edges of a graph: the first reason that holds. None if it has a route.
+///
+/// Looks at all edges, and searches up to four times, each time within the budget. Where it runs out before a route is found,
+/// this is `Undecided`. A payment that is refused whatever the edges are is refused for its first reason.
+pub fn no_route_reason_in<V: RoutingGraph>(
+    alloc: Global,
+    graph: &V,
+    request: &Request,
+    limits: &RouteLimits,
+    budget: &SearchBudget,
+) -> Result<Option<NoRouteReason>, SearchFault>
+    ensures reason { IfOk result (λ found. IsExplained found limits.now (point_edges (V.graph graph.now)) request.now) }
+    ensures unknown { IfErr result (λ fault. IsUnexplained request.now budget.now fault) }
+{
+    if let Some(fault) = request.refusal() {
+        return Err(SearchFault::Fault(fault));
+    }
+    match reason_at_ends(graph, request) {
+        Some(reason) => Ok(Some(reason)),
+        None => reason_between(alloc, graph, request, limits, budget),
+    }
+}
+
+/// The same over a map with its view and an overlay.
+pub fn no_route_reason(
+    alloc: Global,
+    map: &Map,
+    view: &View,
+    overlay: &Overlay,
+    request: &Request,
+    limits: &RouteLimits,
+    budget: &SearchBudget,
+) -> Result<Option<NoRouteReason>, SearchFault>
+    requires beside { IsGraphOf map.now view.now }
+    requires few { length view.now.points + 2 * length overlay.now.extra < 2 ^ 32 }
+    ensures reason { IfOk result (λ found.
+        IsExplained found limits.now (overlaid_edges view.now.known map.now overlay.now) request.now) }
+    ensures unknown { IfErr result (λ fault. IsUnexplained request.now budget.now fault) }
+{
+    map.rows_are_lawful();
+    overlays_are_lawful();
+    if overlay.is_empty() {
+        view.shows_the_edges();
+        return no_route_reason_in(alloc, view, request, limits, budget);
+    }
+    let over = OverlayView::of(alloc, view, overlay)?;
+    no_route_reason_in(alloc, &over, request, limits, budget)
+}
