@@ -73,7 +73,7 @@ enum {
     LGM_SELF_PAYMENT = 24,
     LGM_NO_ROUTE = 25,
 
-    /* Labels or steps ran out, and no route was found so far: it says nothing about the payment. */
+    /* Labels or steps ran out before a route was found: it says nothing about the payment. */
     LGM_UNDECIDED = 26,
     /* A route was written that is usable and within the limits, but may not be the best one: labels or steps ran out. */
     LGM_SO_FAR = 27,
@@ -84,6 +84,29 @@ enum {
     /* The map has no announcement of the node. */
     LGM_NOT_ANNOUNCED = 33,
 
+    /* Why a payment has no route, for the first of these reasons (lgm_no_route_reason). */
+    LGM_PAYER_HAS_NO_CHANNEL = 41,    /* no edge leaves the payer */
+    LGM_PAYEE_TAKES_NO_PAYMENT = 42,  /* no edge leads to the payee, or it requires features that aren't known */
+    LGM_PAYER_LACKS_AMOUNT = 43,      /* no edge out of the payer carries the amount */
+    LGM_PAYEE_LACKS_AMOUNT = 44,      /* no edge into the payee carries the amount */
+    LGM_UNCONNECTED = 45,             /* nothing connects the two for this amount */
+    LGM_BEYOND_DELAY = 46,            /* nothing within the limit of the delay does */
+    LGM_BEYOND_HOPS = 47,             /* nothing within the limit of the hops does */
+    LGM_BEYOND_BOTH = 48,             /* nothing within both limits does */
+
+    /* The first fault of a message (lgm_fault_of; docs/protocol.md, "The first fault of a malformed message"). */
+    LGM_FAULT_LONG = 51,            /* it has more than 65,535 bytes */
+    LGM_FAULT_SHORT = 52,           /* it has fewer than the two bytes of a type */
+    LGM_FAULT_CUT = 53,             /* it ends before its fields do */
+    LGM_FAULT_ENCODING = 54,        /* encoded ids, query flags or timestamps begin with a byte other than 0 */
+    LGM_FAULT_IDS = 55,             /* encoded ids aren't of eight bytes each */
+    LGM_FAULT_TLV_CUT = 56,         /* its TLV stream ends inside a record */
+    LGM_FAULT_TLV_NOT_MINIMAL = 57, /* a number of the stream isn't in its shortest form */
+    /* 58 is never returned. */
+    LGM_FAULT_TLV_ORDER = 59, /* a record's type isn't above the one before */
+    LGM_FAULT_TLV_KIND = 60,  /* a record's type is even and unknown, or 1 and the record malformed */
+    LGM_FAULT_FLAGS = 61,     /* query flags aren't one for each id */
+
     /* The handle is closed; the handle is open already. */
     LGM_CLOSED = 100,
     LGM_OPEN = 101,
@@ -93,11 +116,6 @@ enum {
      * is returned even if memory is short. lgm_filter returns LGM_ROOM even then.
      */
     LGM_NO_MEMORY = 102,
-    /*
-     * A number that stands for no verdict or message; too many edges; a map that changes, where a published one is wanted;
-     * hops that are no route, or records that aren't custom ones by ascending types, or too long.
-     */
-    LGM_ARGUMENT = 103,
     /* A buffer is too short. The lengths that are needed were written. */
     LGM_ROOM = 104,
     /* The map has more than 2,000,000,000 channels, too many for a route search. */
@@ -105,7 +123,20 @@ enum {
     /* The map was published, so it doesn't change. */
     LGM_PUBLISHED = 106,
     /* There is none: no id or point above the given one, no such update, or no edge of which something is known. */
-    LGM_NONE = 107
+    LGM_NONE = 107,
+
+    /* An argument is wrong: 110 to 120. The word of each names it, and says what it may be. */
+    LGM_ARGUMENT_SIG = 110,          /* `sig` isn't 0 to 3 */
+    LGM_ARGUMENT_FUNDING = 111,      /* `funding` isn't 0 to 3 */
+    LGM_ARGUMENT_EDGES = 112,        /* there are more than LGM_MOST_EDGES edges */
+    LGM_ARGUMENT_LIMITS = 113,       /* there are more than LGM_MOST_LIMITS limits */
+    LGM_ARGUMENT_MAXIMUM = 114,      /* an edge's `htlc_maximum_msat` is 0 */
+    LGM_ARGUMENT_PUBLISHED = 115,    /* the map isn't a published one */
+    LGM_ARGUMENT_HOPS = 116,         /* the hops aren't 1 to 20 that follow one another */
+    LGM_ARGUMENT_RECORD_TYPE = 117,  /* a record's type is below 65,536 */
+    LGM_ARGUMENT_RECORD_ORDER = 118, /* a record's type isn't above the one before */
+    LGM_ARGUMENT_PAYLOADS = 119,     /* the payloads don't fit an onion packet */
+    LGM_ARGUMENT_WHICH = 120         /* `which` isn't 0, 1 or 2 */
 };
 
 /*
@@ -119,7 +150,7 @@ typedef struct {
 } lgm_map;
 
 /* The version of this header. */
-#define LGM_VERSION 3
+#define LGM_VERSION 4
 
 /* The version of the library, to be compared with LGM_VERSION. */
 uint32_t lgm_version(void);
@@ -129,9 +160,81 @@ uint32_t lgm_version(void);
 
 /*
  * The word of a number that a call returned, as `lgm run` writes it: "accepted" for 0, "malformed" for 1 and so on,
- * padded with zeros. 13 has the word "conflict"; any other number that no call returns has the empty word.
+ * padded with zeros. 13 and 58 have the words "conflict" and "tlv-too-long"; any other number that no call returns has the
+ * empty word.
  */
 void lgm_word(uint32_t number, uint8_t word[LGM_WORD_LEN]);
+
+/* The same word as a string of the program, for printf and the like: one for each number, which lasts. */
+static inline const char *lgm_text(uint32_t number) {
+    switch (number) {
+    case LGM_OK: return "accepted";
+    case LGM_MALFORMED: return "malformed";
+    case LGM_UNKNOWN_EVEN: return "unknown-even";
+    case LGM_IGNORED: return "ignored";
+    case LGM_NOT_GOSSIP: return "not-gossip";
+    case LGM_CHAIN: return "chain";
+    case LGM_POINT: return "point";
+    case LGM_NODE_ORDER: return "node-order";
+    case LGM_PRIVATE: return "private";
+    case LGM_FUNDING: return "funding";
+    case LGM_SIGNATURE: return "signature";
+    case LGM_UNKNOWN_CHANNEL: return "unknown-channel";
+    case LGM_KNOWN: return "known";
+    case 13: return "conflict";
+    case LGM_UNKNOWN_NODE: return "unknown-node";
+    case LGM_NOT_NEWER: return "not-newer";
+    case LGM_BANNED: return "banned";
+    case LGM_AMOUNT_ZERO: return "amount-zero";
+    case LGM_AMOUNT_TOO_LARGE: return "amount-too-large";
+    case LGM_EXPIRY_TOO_LARGE: return "expiry-too-large";
+    case LGM_SELF_PAYMENT: return "self-payment";
+    case LGM_NO_ROUTE: return "no-route";
+    case LGM_UNDECIDED: return "undecided";
+    case LGM_SO_FAR: return "so-far";
+    case LGM_NOT_QUERY: return "not-query";
+    case LGM_NOT_FILTER: return "not-filter";
+    case LGM_NOT_ANNOUNCED: return "not-announced";
+    case LGM_PAYER_HAS_NO_CHANNEL: return "payer-has-no-channel";
+    case LGM_PAYEE_TAKES_NO_PAYMENT: return "payee-takes-no-payment";
+    case LGM_PAYER_LACKS_AMOUNT: return "payer-lacks-amount";
+    case LGM_PAYEE_LACKS_AMOUNT: return "payee-lacks-amount";
+    case LGM_UNCONNECTED: return "unconnected";
+    case LGM_BEYOND_DELAY: return "beyond-delay";
+    case LGM_BEYOND_HOPS: return "beyond-hops";
+    case LGM_BEYOND_BOTH: return "beyond-both";
+    case LGM_FAULT_LONG: return "long";
+    case LGM_FAULT_SHORT: return "short";
+    case LGM_FAULT_CUT: return "cut";
+    case LGM_FAULT_ENCODING: return "encoding";
+    case LGM_FAULT_IDS: return "ids";
+    case LGM_FAULT_TLV_CUT: return "tlv-cut";
+    case LGM_FAULT_TLV_NOT_MINIMAL: return "tlv-not-minimal";
+    case 58: return "tlv-too-long";
+    case LGM_FAULT_TLV_ORDER: return "tlv-order";
+    case LGM_FAULT_TLV_KIND: return "tlv-kind";
+    case LGM_FAULT_FLAGS: return "flags";
+    case LGM_CLOSED: return "closed";
+    case LGM_OPEN: return "open";
+    case LGM_NO_MEMORY: return "no-memory";
+    case LGM_ROOM: return "room";
+    case LGM_FULL: return "full";
+    case LGM_PUBLISHED: return "published";
+    case LGM_NONE: return "none";
+    case LGM_ARGUMENT_SIG: return "sig: 0 to 3";
+    case LGM_ARGUMENT_FUNDING: return "funding: 0 to 3";
+    case LGM_ARGUMENT_EDGES: return "edges: at most 100,000";
+    case LGM_ARGUMENT_LIMITS: return "limits: at most 300,000";
+    case LGM_ARGUMENT_MAXIMUM: return "edge: a maximum of 0";
+    case LGM_ARGUMENT_PUBLISHED: return "published: not one";
+    case LGM_ARGUMENT_HOPS: return "hops: no route";
+    case LGM_ARGUMENT_RECORD_TYPE: return "record: type < 65,536";
+    case LGM_ARGUMENT_RECORD_ORDER: return "records: not ascending";
+    case LGM_ARGUMENT_PAYLOADS: return "payloads: too long";
+    case LGM_ARGUMENT_WHICH: return "which: 0, 1 or 2";
+    default: return "";
+    }
+}
 
 /*
  * Opens a closed handle, with a map of this chain without channels and nodes, and without a mark.
@@ -171,7 +274,7 @@ enum {
  * Offers a gossip message, beginning with the two bytes of its type, with the verdicts on it (BOLT 7). The bytes of
  * `signer` are used only with LGM_SIG_BY, but it always points to 33 bytes; `sat` is used only with LGM_FUNDING_UNSPENT.
  *
- * LGM_CLOSED; LGM_PUBLISHED; LGM_ARGUMENT; 1 to 16; LGM_NO_MEMORY.
+ * LGM_CLOSED; LGM_PUBLISHED; LGM_ARGUMENT_SIG; LGM_ARGUMENT_FUNDING; 1 to 16; LGM_NO_MEMORY.
  */
 uint32_t lgm_offer(lgm_map *map, const uint8_t *message, size_t message_len, uint32_t sig,
                    const uint8_t signer[33], uint32_t funding, uint64_t sat);
@@ -180,11 +283,20 @@ uint32_t lgm_offer(lgm_map *map, const uint8_t *message, size_t message_len, uin
  * Tells whether a message is worth verifying: LGM_OK if it would be accepted with the right verdicts, else its refusal, which
  * no verdicts mend. For a channel_update and a node_announcement it writes the key whose signature is to be verified to
  * `signer`, which is unchanged otherwise. lgm_offer returns the same with the right verdicts: LGM_SIG_ALL_FOUR and
- * LGM_FUNDING_UNSPENT on a channel_announcement, and LGM_SIG_BY with that key on the others. The map is unchanged.
+ * LGM_FUNDING_UNSPENT, of up to 2,100,000,000,000,000 satoshi, on a channel_announcement, and LGM_SIG_BY with that key on the
+ * others. Of a published map it tells what that map would accept if it still changed. The map is unchanged.
  *
  * LGM_CLOSED; 1 to 8; 11 to 16; LGM_NO_MEMORY, of a query or a reply with lists alone: no other message takes memory.
  */
 uint32_t lgm_wanted(lgm_map *map, const uint8_t *message, size_t message_len, uint8_t signer[33]);
+
+/*
+ * The first fault of a message, as LGM_MALFORMED doesn't tell: LGM_OK if it has none, LGM_UNKNOWN_EVEN or LGM_IGNORED of an
+ * unknown type, else 51 to 61.
+ *
+ * LGM_NO_MEMORY, of a query or a reply with lists alone.
+ */
+uint32_t lgm_fault_of(const uint8_t *message, size_t message_len);
 
 /*
  * Closes a channel, because its funding output was spent: removes it with its updates, and the announcement of each of
@@ -197,7 +309,7 @@ uint32_t lgm_close_channel(lgm_map *map, uint64_t scid);
 /*
  * Bans a node, as contradicting announcements of a channel ban the nodes of both: removes its channels with their updates,
  * and the announcement of each node that has no other channel. Announcements of it and of its channels are refused from
- * then on. A ban lasts as long as the map.
+ * then on. A ban lasts as long as the map. The point isn't checked: any 33 bytes can be banned.
  *
  * LGM_CLOSED; LGM_PUBLISHED; LGM_BANNED; LGM_NO_MEMORY.
  */
@@ -266,13 +378,13 @@ typedef struct {
 
 /*
  * Makes the payloads of a route that was found, for a payee that gets more than lgm_route tells it: those of one part of a
- * payment in several, and with payment metadata or custom records (BOLT 4, "Payload Format"). Reads the hops; writes to each
- * the length of its payload, which alone may change; to `payloads` the payloads, as lgm_route does; and the numbers of both to
- * `lengths`. That the parts of a payment add up to its total isn't checked.
+ * payment in several, and with payment metadata or custom records (BOLT 4, "Payload Format"). Reads the hops; writes to
+ * each the length of its payload, which alone may change; to `payloads` the payloads, as lgm_route does; and the numbers of
+ * both to `lengths`. That the parts of a payment add up to its total isn't checked.
  *
- * LGM_ARGUMENT, if the hops aren't 1 to 20, each of which begins where the one before ends, with no greater amount and no
- * later expiry; or if the type of a record is below 65,536 or not above the one before, or the payloads don't fit an onion
- * packet; LGM_ROOM; LGM_NO_MEMORY, which may come in place of LGM_ARGUMENT if the hops are such a route.
+ * LGM_ARGUMENT_HOPS, unless the hops are 1 to 20, each of which begins where the one before ends, with no greater amount
+ * and no later expiry; 117 to 119, of the first record that is wrong, or of payloads that are too long; LGM_ROOM;
+ * LGM_NO_MEMORY, which may come in place of 117 to 119.
  */
 uint32_t lgm_payloads(const lgm_arrival *arrival, lgm_hop *hops, size_t hops_len, uint8_t *payloads, size_t payloads_len,
                       lgm_lengths *lengths);
@@ -362,7 +474,7 @@ uint32_t lgm_estimates_at(lgm_estimates *estimates, size_t place, uint64_t *scid
 typedef struct {
     uint64_t scid; /* as the node that the edge leaves resolves it */
     uint64_t htlc_minimum_msat;
-    uint64_t htlc_maximum_msat; /* of a channel of the payer's own, what it can send */
+    uint64_t htlc_maximum_msat; /* 1 or more: of a channel of the payer's own, what it can send; of a hint, UINT64_MAX */
     /* The payer's own channel charges nothing and adds no delay, so of one these don't matter. */
     uint32_t fee_base_msat;
     uint32_t fee_proportional_millionths;
@@ -382,8 +494,9 @@ typedef struct {
     uint8_t point[33];
 } lgm_point;
 
-/* The most edges of a call. */
+/* The most edges and limits of a call. */
 #define LGM_MOST_EDGES 100000
+#define LGM_MOST_LIMITS 300000
 
 /* The most steps and labels of a search, if the call doesn't say. */
 #define LGM_MOST_STEPS 5000000
@@ -403,15 +516,30 @@ typedef struct {
 } lgm_search;
 
 /*
- * Finds the best route of a payment by what its payer prefers (docs/protocol.md, "A route that arrives"), over what the payer
- * knows beside the map ("What a payer knows beside the map"), in a map that changes or a published one:
+ * A payment to be tried: what its payer knows beside the map (docs/protocol.md, "What a payer knows beside the map"), and
+ * what it prefers ("A route that arrives"). All zeros but the payment are a payment over the map alone.
  *
  *   - each of the edges stands in place of the map's with its id out of its node; of such edges the first counts;
  *   - the least limit of an edge counts;
- *   - no edge of the map that leaves a silent node is used. The node may be paid, and edges of this call may leave it;
- *   - what is believed of edges counts as `estimates` has it. Of a closed handle nothing is known;
- *   - the expiry over the first hop is above that of the payment by at most `most_delay` blocks, and the route has at most
- *     `most_hops` hops ("A route within a delay"). LGM_NO_ROUTE then says that no usable route is within both.
+ *   - no edge of the map that leaves a silent node is used. The node may be paid, and edges of this attempt may leave it.
+ */
+typedef struct {
+    lgm_payment payment;
+    const lgm_edge *edges;
+    size_t edges_len;
+    const lgm_limit *limits;
+    size_t limits_len;
+    const lgm_point *silent;
+    size_t silent_len;
+    lgm_search search;
+} lgm_attempt;
+
+/*
+ * Finds the best route for an attempt by what its payer prefers and has learnt of edges, in a map that changes or a
+ * published one. What is believed of edges counts as `estimates` has it; of a closed handle nothing is known. The expiry
+ * over the first hop is above that of the payment by at most `most_delay` blocks, and the route has at most `most_hops`
+ * hops ("A route within a delay"). LGM_NO_ROUTE then says that no usable route is within both; lgm_no_route_reason says
+ * why.
  *
  * A search ends before it is certain once it has made `most_labels` labels, or taken `most_steps` steps. Then it writes the
  * best route so far, and returns LGM_SO_FAR, or returns LGM_UNDECIDED if it found none. LGM_NO_ROUTE never comes for want of
@@ -420,16 +548,23 @@ typedef struct {
  * with all labels and steps. More of these help, or to exclude edges with large deltas by limits of 0.
  *
  * The map, what is known of edges, and all else that is passed are unchanged. While the call runs, it alone uses the handle
- * of the estimates. All but the payment may be left out, by lengths of 0, a closed handle and zeros: it then does what
- * lgm_route does, and costs the same.
+ * of the estimates. With a closed one, and zeros but the payment, it does what lgm_route does, and costs the same.
  *
- * LGM_CLOSED, of `map`; LGM_ARGUMENT, for more than LGM_MOST_EDGES edges; LGM_FULL; 21 to 24; LGM_NO_MEMORY; 25 to 27;
- * LGM_ROOM, in place of LGM_SO_FAR too.
+ * LGM_CLOSED, of `map`; LGM_ARGUMENT_EDGES; LGM_ARGUMENT_LIMITS; LGM_ARGUMENT_MAXIMUM; LGM_FULL; 21 to 24; LGM_NO_MEMORY;
+ * 25 to 27; LGM_ROOM, in place of LGM_SO_FAR too.
  */
-uint32_t lgm_route_over(lgm_map *map, const lgm_payment *payment, const lgm_edge *edges, size_t edges_len,
-                        const lgm_limit *limits, size_t limits_len, const lgm_point *silent, size_t silent_len,
-                        lgm_estimates *estimates, const lgm_search *search, lgm_hop *hops, size_t hops_len,
-                        uint8_t *payloads, size_t payloads_len, lgm_lengths *lengths);
+uint32_t lgm_attempt_route(lgm_map *map, const lgm_attempt *attempt, lgm_estimates *estimates, lgm_hop *hops,
+                           size_t hops_len, uint8_t *payloads, size_t payloads_len, lgm_lengths *lengths);
+
+/*
+ * Tells why there is no route for an attempt, whatever its payer prefers and has learnt: the first of the reasons 41 to 48
+ * that holds, over the map's edges and what the payer knows beside them; or LGM_OK if there is a route within its limits.
+ * It looks at all edges, and makes up to four searches, each with all labels and steps.
+ *
+ * LGM_CLOSED; LGM_ARGUMENT_EDGES; LGM_ARGUMENT_LIMITS; LGM_ARGUMENT_MAXIMUM; LGM_FULL; 21 to 24; LGM_NO_MEMORY; 41 to 48;
+ * LGM_UNDECIDED, if labels or steps ran out first.
+ */
+uint32_t lgm_no_route_reason(lgm_map *map, const lgm_attempt *attempt);
 
 /*
  * Answers a peer's query_short_channel_ids (261) or query_channel_range (263) (BOLT 7, "Query Messages"). Writes the
@@ -467,11 +602,12 @@ uint32_t lgm_news_between(lgm_map *before, lgm_map *after, const uint8_t *filter
                           uint8_t *messages, size_t messages_len, size_t *needed);
 
 /*
- * Moves the mark to the map as it is now, or sets the first mark. From then on each accepted message, close and ban is
- * kept until the mark moves, or until there are more than the map has channels, and 1,024 more: then none are, and the next
- * lgm_news and lgm_mark take the time of the map.
+ * Moves the mark to the map as it is now, or sets the first mark, which takes no memory. From then on each accepted
+ * message, close and ban is kept until the mark moves, or until there are more than the map has channels, and 1,024 more:
+ * then none are, and the next lgm_news takes the time of the map. Before the first of them that comes after the first mark,
+ * or after one that none led to, the map's index is copied. None are kept for a mark on a map without channels.
  *
- * LGM_CLOSED; LGM_PUBLISHED; LGM_NO_MEMORY.
+ * LGM_CLOSED; LGM_PUBLISHED.
  */
 uint32_t lgm_mark(lgm_map *map);
 
@@ -484,14 +620,15 @@ uint32_t lgm_mark(lgm_map *map);
  * From the first publication on, what is accepted is kept until it is published twice, or until it is more than the map
  * has channels. A published map is published by one more handle of it, as by lgm_share.
  *
- * LGM_CLOSED, of `map`; LGM_OPEN, of `published`; LGM_NO_MEMORY.
+ * LGM_CLOSED, of `map`; LGM_OPEN, of `published`, also if it is the handle of the map itself; LGM_NO_MEMORY.
  */
 uint32_t lgm_publish(lgm_map *map, lgm_map *published);
 
 /*
  * Opens a closed handle with what the one of a published map has: one more owner, for another thread. Nothing is copied.
  *
- * LGM_CLOSED, of `published`; LGM_ARGUMENT, if that is a map that changes; LGM_OPEN, of `other`; LGM_NO_MEMORY.
+ * LGM_CLOSED, of `published`; LGM_ARGUMENT_PUBLISHED, if that is a map that changes; LGM_OPEN, of `other`, also if it is the
+ * same handle; LGM_NO_MEMORY.
  */
 uint32_t lgm_share(lgm_map *published, lgm_map *other);
 
@@ -547,7 +684,7 @@ uint32_t lgm_node(lgm_map *map, const uint8_t point[33], lgm_node_info *node, ui
  * Writes a message of a channel as it was received, and its length to `needed`: the announcement if `which` is 0, the update
  * that node 1 sets if it is 1, and that of node 2 if it is 2.
  *
- * LGM_CLOSED; LGM_ARGUMENT; LGM_UNKNOWN_CHANNEL; LGM_NONE, without such an update; LGM_ROOM.
+ * LGM_CLOSED; LGM_ARGUMENT_WHICH; LGM_UNKNOWN_CHANNEL; LGM_NONE, without such an update; LGM_ROOM.
  */
 uint32_t lgm_channel_message(lgm_map *map, uint64_t scid, uint32_t which, uint8_t *message, size_t message_len,
                              size_t *needed);

@@ -7,5 +7,6 @@ mod FirstNews
 mod Hops
 mod ShortWords
 mod Searches
+mod Maxima
 mod Written
 mod Built

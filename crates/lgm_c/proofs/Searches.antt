@@ -1,21 +1,17 @@
 -- When a route is searched for, and what the search for an attempt gives.
-use Rattle.std.proofs.Common.{◌≡◌, ◌⊎◌, ℕ, ◌≤◌, ◌<◌, Bool, true, false, List, [], length, Option, Some, None, Result, Ok, Err}
+use Rattle.std.proofs.Common.{◌≡◌, ℕ, Bool, true, false, List, length, Option, Some, None, Result, Ok, Err}
 use Rattle.std.proofs.Common.{inl, inr, refl, sym, ap, subst, ◌∙◌, nat_lt}
 use Rattle.std.specs.Prelude.{if◌then◌else◌}
-use Rattle.std.proofs.lemmas.Bool.{le-ltb, lt-ltb}
 use Rattle.std.specs.Result.{IsErrAnd}
-use Rattle.lgm_graph.specs.declared.view.TheConstants.{MAX_CHANNELS}
 use Rattle.lgm_graph.specs.declared.route.Hop.{Hop}
-use Rattle.lgm_graph.specs.Edges.{PointEdge, AreKeyed, edges_of}
-use Rattle.lgm_graph.specs.Estimates.{Entries}
+use Rattle.lgm_graph.specs.Edges.{PointEdge, AreKeyed}
 use Rattle.lgm_graph.specs.Overlay.{IsNeutral}
 use Rattle.lgm_route.specs.Answers.{refusal}
 use Rattle.lgm_route.specs.Choice.{answer_of, found_by}
-use Rattle.lgm_route.specs.Preferred.{penalty_at, preferred_answer, preferred_walk, no_limits, no_preferences, IsBeyond, NothingPreferred}
+use Rattle.lgm_route.specs.Preferred.{penalty_at, preferred_answer, preferred_walk, no_limits, IsBeyond, NothingPreferred}
 use Rattle.lgm_route.specs.declared.limits.RouteLimits.{RouteLimits}
 use Rattle.lgm_route.specs.declared.request.Request.{Request}
 use Rattle.lgm_route.specs.declared.fault.RouteFault.{RouteFault}
-use Rattle.lgm_route.specs.declared.fault.RouteFault.TheVariants as reasons
 use Rattle.lgm_route.specs.declared.found.Found.{Found}
 use Rattle.lgm_route.specs.declared.found.SearchFault.{SearchFault}
 use Rattle.lgm_route.specs.declared.found.SearchFault.TheVariants as searched
@@ -23,7 +19,8 @@ use Rattle.lgm_c.specs.declared.fault.Fault.{Fault}
 use Rattle.lgm_c.specs.declared.fault.Fault.TheVariants as faults
 use Rattle.lgm_c.specs.declared.routes.LgmPayment.{LgmPayment}
 use Rattle.lgm_store.specs.Rows.{Rows}
-use Rattle.lgm_c.specs.Attempts.{AttemptParts, plain_attempt, edges_for, answer_for, route_over, MayStop}
+use Rattle.lgm_c.specs.declared.argument_fault.ArgumentFault.{ArgumentFault}
+use Rattle.lgm_c.specs.Attempts.{AttemptParts, plain_attempt, edges_for, answer_for, route_over, unless_wrong, wrong_argument, first_fault, unsearched, MayStop}
 use Rattle.lgm_c.specs.Routing.{found_or_unrouted, routed_in, route_asked, IsSearched}
 use Rattle.lgm_c.specs.Status.{unrouted, unfound}
 use Rattle.lgm_c.specs.inner.Searching.{IsFound, IsRouted}
@@ -54,68 +51,85 @@ module _ (attempt : AttemptParts) (known : Option (List ℕ)) (rows : Rows) wher
   abbrev answer : Result (List Hop) RouteFault
   answer = answer_for attempt edges
 
-  -- with too many edges beside the map's no route is searched for
-  pub too_many_edges : 100000 < length attempt.overlay.extra → route_over attempt known rows ≡ Err faults.Argument
-  too_many_edges many = rw (lt-ltb 100000 (length attempt.overlay.extra) many) refl
+  abbrev is_full : Bool
+  is_full = nat_lt 2000000000 (length rows.channels)
 
-  module _ (small : length attempt.overlay.extra ≤ 100000) where
-    is_small : nat_lt 100000 (length attempt.overlay.extra) ≡ false
-    is_small = le-ltb 100000 (length attempt.overlay.extra) small
+  -- a fault that is returned whatever the edges are is that of the answer
+  pub refuses_at_once : (fault : Fault) → unsearched attempt rows ≡ Some fault → route_over attempt known rows ≡ Err fault
+  refuses_at_once fault is = by (wrong_argument attempt.overlay) is_full (refusal attempt.request) refl is
+    where
+      by : (argument : Option ArgumentFault) (full : Bool) (refused : Option RouteFault) → refusal attempt.request ≡ refused
+          → first_fault argument full refused ≡ Some fault
+          → unless_wrong argument (if full then Err faults.Full else found_or_unrouted answer) ≡ Err fault
+      by (Some own) full refused r is = let same : faults.Argument own ≡ fault = cc in ap Err same
+      by None true refused r is = let same : faults.Full ≡ fault = cc in ap Err same
+      by None false (Some reason) r is =
+          let same : unrouted reason ≡ fault = cc in
+          ap found_or_unrouted (refused_at_once penalty attempt.limits edges attempt.request reason r) ∙ ap Err same
+      by None false None r is = absurd cc
 
-    -- nor is one with too many channels
-    pub too_many : MAX_CHANNELS < length rows.channels → route_over attempt known rows ≡ Err faults.Full
-    too_many many = rw (is_small, lt-ltb MAX_CHANNELS (length rows.channels) many) refl
+  -- and what a call gives then
+  pub gives_refusal : (fault : Fault) → unsearched attempt rows ≡ Some fault → (result : Result Found Fault)
+      → IsErrAnd result (λ f. f ≡ fault) → IsRouted attempt known rows result
+  gives_refusal fault is (Ok found) err = absurd err
+  gives_refusal fault is (Err f) err = inl (refuses_at_once fault is ∙ ap (λ (f : Fault). let e : Result (List Hop) Fault = Err f in e) (sym err))
 
-    -- with no more, a refusal is returned at once
-    module _ (few : length rows.channels ≤ MAX_CHANNELS) where
-      fits : route_over attempt known rows ≡ found_or_unrouted answer
-      fits = rw (is_small, le-ltb MAX_CHANNELS (length rows.channels) few) refl
+  -- without one a route is searched for
+  module _ (right : unsearched attempt rows ≡ None) where
+    fits_and_lawful : (route_over attempt known rows ≡ found_or_unrouted answer) × (refusal attempt.request ≡ None)
+    fits_and_lawful = by (wrong_argument attempt.overlay) is_full (refusal attempt.request) right
+      where
+        by : (argument : Option ArgumentFault) (full : Bool) (refused : Option RouteFault) → first_fault argument full refused ≡ None
+            → (unless_wrong argument (if full then Err faults.Full else found_or_unrouted answer) ≡ found_or_unrouted answer) × (refused ≡ None)
+        by (Some own) full refused is = absurd cc
+        by None true refused is = absurd cc
+        by None false (Some reason) is = absurd cc
+        by None false None is = (refl, refl)
 
-      pub refuses_at_once : (reason : RouteFault) → refusal attempt.request ≡ Some reason
-          → route_over attempt known rows ≡ Err (unrouted reason)
-      refuses_at_once reason is =
-          fits ∙ ap found_or_unrouted (refused_at_once penalty attempt.limits edges attempt.request reason is)
+    fits : route_over attempt known rows ≡ found_or_unrouted answer
+    fits = fits_and_lawful.0
 
-      -- for any other request a route is searched for
-      module _ (lawful : refusal attempt.request ≡ None) where
-        pub is_to_search : IsSearched (route_over attempt known rows)
-        is_to_search = subst IsSearched (sym fits) (searches penalty attempt.limits edges attempt.request lawful)
+    pub lawful : refusal attempt.request ≡ None
+    lawful = fits_and_lawful.1
 
-        -- the route that was found
-        pub gives_found : (result : Result Found SearchFault) (found : Found) → result ≡ Ok found → IsFound attempt known rows result
-            → IsRouted attempt known rows (Ok found)
-        gives_found result found was given = either found.is_best refl
-          where
-            is : IsFound attempt known rows (Ok found)
-            is = subst (IsFound attempt known rows) was given
+    pub is_to_search : IsSearched (route_over attempt known rows)
+    is_to_search = subst IsSearched (sym fits) (searches penalty attempt.limits edges attempt.request lawful)
 
-            either : (best : Bool) → found.is_best ≡ best → IsRouted attempt known rows (Ok found)
-            either true best = inl (best, fits ∙ ap found_or_unrouted (sym (is.answer.0 best)))
-            either false not = inr (not, is_to_search, is.stops not, is.answer.1)
+    -- the route that was found
+    pub gives_found : (result : Result Found SearchFault) (found : Found) → result ≡ Ok found → IsFound attempt known rows result
+        → IsRouted attempt known rows (Ok found)
+    gives_found result found was given = either found.is_best refl
+      where
+        is : IsFound attempt known rows (Ok found)
+        is = subst (IsFound attempt known rows) was given
 
-        -- why there is none
-        fault_given : (fault : SearchFault) → IsFound attempt known rows (Err fault)
-            → IsRouted attempt known rows (Err (unfound fault))
-        fault_given searched.Undecided is = inr (inr (is_to_search, is.stops tt, refl))
-        fault_given (searched.Fault reason) is =
-            elim is.answer [
-              | inl none ↦ inr (inl (is_to_search, ap unrouted none))
-              | inr none ↦ inl (fits ∙ ap found_or_unrouted (sym none))
-            ]
+        either : (best : Bool) → found.is_best ≡ best → IsRouted attempt known rows (Ok found)
+        either true best = inl (best, fits ∙ ap found_or_unrouted (sym (is.answer.0 best)))
+        either false not = inr (not, is_to_search, is.stops not, is.answer.1)
 
-        pub gives_fault : (found : Result Found SearchFault) (fault : SearchFault) (result : Result Found Fault)
-            → found ≡ Err fault → IsFound attempt known rows found → IsErrAnd result (λ f. f ≡ unfound fault)
-            → IsRouted attempt known rows result
-        gives_fault found fault (Ok other) was is err = absurd err
-        gives_fault found fault (Err f) was is err =
-            subst (λ f. IsRouted attempt known rows (Err f)) (sym err)
-            (fault_given fault (subst (IsFound attempt known rows) was is))
+    -- why there is none
+    fault_given : (fault : SearchFault) → IsFound attempt known rows (Err fault)
+        → IsRouted attempt known rows (Err (unfound fault))
+    fault_given searched.Undecided is = inr (inr (is_to_search, is.stops tt, refl))
+    fault_given (searched.Fault reason) is =
+        elim is.answer [
+          | inl none ↦ inr (inl (is_to_search, ap unrouted none))
+          | inr none ↦ inl (fits ∙ ap found_or_unrouted (sym none))
+        ]
 
-        -- and so did one that didn't get to it
-        pub short_of_memory : (result : Result Found Fault) → IsErrAnd result (λ fault. fault ≡ faults.NoMemory)
-            → IsRouted attempt known rows result
-        short_of_memory (Ok found) err = absurd err
-        short_of_memory (Err fault) err = inr (inl (is_to_search, err))
+    pub gives_fault : (found : Result Found SearchFault) (fault : SearchFault) (result : Result Found Fault)
+        → found ≡ Err fault → IsFound attempt known rows found → IsErrAnd result (λ f. f ≡ unfound fault)
+        → IsRouted attempt known rows result
+    gives_fault found fault (Ok other) was is err = absurd err
+    gives_fault found fault (Err f) was is err =
+        subst (λ f. IsRouted attempt known rows (Err f)) (sym err)
+        (fault_given fault (subst (IsFound attempt known rows) was is))
+
+    -- and so did one that didn't get to it
+    pub short_of_memory : (result : Result Found Fault) → IsErrAnd result (λ fault. fault ≡ faults.NoMemory)
+        → IsRouted attempt known rows result
+    short_of_memory (Ok found) err = absurd err
+    short_of_memory (Err fault) err = inr (inl (is_to_search, err))
 
 -- ---- over the map alone
 

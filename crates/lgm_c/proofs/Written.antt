@@ -1,9 +1,9 @@
 -- What is written of what was found.
-use Rattle.std.proofs.Common.{◌≡◌, ◌⊎◌, ℕ, Bool, true, false, List, Result, Ok, Err, inl, inr, refl, sym, ap, subst, ◌∙◌}
+use Rattle.std.proofs.Common.{◌≡◌, ℕ, List, Result, Ok, Err, inl, inr, sym, ap, subst, ◌∙◌}
 use Rattle.lgm_graph.specs.declared.route.Hop.{Hop}
 use Rattle.lgm_route.specs.declared.found.Found.{Found}
 use Rattle.lgm_c.specs.declared.fault.Fault.{Fault}
-use Rattle.lgm_c.specs.Routing.{Buffers, IsSearched, WritesFound, WritesHops, WritesRoute, WritesSoFar, number_written}
+use Rattle.lgm_c.specs.Routing.{Buffers, WritesFound, WritesHops, WritesRoute, WritesSoFar, number_written}
 use Rattle.lgm_c.specs.Status.{number_of}
 use Rattle.lgm_c.specs.inner.Searching.{GivesRoute}
 

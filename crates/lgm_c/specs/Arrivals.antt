@@ -8,6 +8,7 @@ use Rattle.lgm_payload.specs.declared.arrival_fault.ArrivalFault.{ArrivalFault}
 use Rattle.lgm_c.specs.declared.arrival.LgmArrival.{LgmArrival}
 use Rattle.lgm_c.specs.declared.arrival.LgmRecord.{LgmRecord}
 use Rattle.lgm_c.specs.declared.routes.LgmHop.{LgmHop}
+use Rattle.lgm_c.specs.declared.argument_fault.ArgumentFault.TheVariants as wrong
 use Rattle.lgm_c.specs.declared.fault.Fault.{Fault}
 use Rattle.lgm_c.specs.declared.fault.Fault.TheVariants as faults
 use Rattle.lgm_c.specs.Routing.{Buffers, AreWritten, c_hops, all_payloads}
@@ -80,4 +81,4 @@ WritesBuilt hops built status old new = WritesGiven hops built status old new �
 abbrev pub WritesPayloads : ArrivalParts → ℕ → Buffers → Buffers → Type 0
 WritesPayloads arrival status old new =
     (IsRoute old.hops × WritesBuilt (hops_given old.hops) (built_for arrival (hops_given old.hops)) status old new)
-    ⊎ ((¬ IsRoute old.hops) × (status ≡ number_of faults.Argument) × (new ≡ old))
+    ⊎ ((¬ IsRoute old.hops) × (status ≡ number_of (faults.Argument wrong.Hops)) × (new ≡ old))

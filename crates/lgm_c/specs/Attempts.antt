@@ -1,6 +1,7 @@
 -- A payment over what its payer knows and prefers, within limits: what C says of it, and what is asked.
-use Rattle.std.specs.Prelude.{◌≡◌, ℕ, nat_eq, nat_lt, if◌then◌else◌, List, [], map, length, Option, None, Some}
-use Rattle.std.specs.Prelude.{Result, Ok, Err}
+use Rattle.std.specs.Prelude.{◌≡◌, ◌⊎◌, ℕ, nat_eq, nat_lt, Bool, true, false, if◌then◌else◌, List, [], map, length, Option, None, Some}
+use Rattle.std.specs.Prelude.{Result, Err}
+use Rattle.std.specs.List.{list_any}
 use Rattle.lgm_wire.specs.declared.point.Point.{Point}
 use Rattle.lgm_store.specs.Rows.{Rows}
 use Rattle.lgm_graph.specs.Edges.{PointEdge}
@@ -9,12 +10,18 @@ use Rattle.lgm_graph.specs.declared.overlay.ExtraEdge.{ExtraEdge}
 use Rattle.lgm_graph.specs.declared.overlay.Limit.{Limit}
 use Rattle.lgm_graph.specs.declared.route.Hop.{Hop}
 use Rattle.lgm_graph.specs.Estimates.{Entries}
-use Rattle.lgm_route.specs.Preferred.{penalty_at, preferred_answer, no_preferences, no_limits, IsSomeRoute, IsBeyond, IsBounded}
+use Rattle.lgm_route.specs.Preferred.{penalty_at, preferred_answer, no_preferences, IsSomeRoute, IsBeyond, IsBounded, IsUsedUp}
 use Rattle.lgm_route.specs.declared.fault.RouteFault.{RouteFault}
 use Rattle.lgm_route.specs.declared.limits.RouteLimits.{RouteLimits}
 use Rattle.lgm_route.specs.declared.limits.SearchBudget.{SearchBudget}
 use Rattle.lgm_route.specs.declared.preferences.Preferences.{Preferences}
 use Rattle.lgm_route.specs.declared.request.Request.{Request}
+use Rattle.lgm_route.specs.declared.no_route.NoRouteReason.{NoRouteReason}
+use Rattle.lgm_route.specs.Answers.{refusal}
+use Rattle.lgm_route.specs.Reasons.{IsExplained, reason_number}
+use Rattle.lgm_c.specs.declared.argument_fault.ArgumentFault.{ArgumentFault}
+use Rattle.lgm_c.specs.declared.argument_fault.ArgumentFault.TheVariants as wrong
+use Rattle.lgm_c.specs.declared.attempt.LgmAttempt.{LgmAttempt}
 use Rattle.lgm_c.specs.declared.attempt.LgmEdge.{LgmEdge}
 use Rattle.lgm_c.specs.declared.attempt.LgmLimit.{LgmLimit}
 use Rattle.lgm_c.specs.declared.attempt.LgmPoint.{LgmPoint}
@@ -24,7 +31,7 @@ use Rattle.lgm_c.specs.declared.fault.Fault.{Fault}
 use Rattle.lgm_c.specs.declared.fault.Fault.TheVariants as faults
 use Rattle.lgm_c.specs.MapState.{MapState}
 use Rattle.lgm_c.specs.Routing.{request_of, routed_in, Buffers, WritesSoFar}
-use Rattle.lgm_c.specs.Status.{number_of}
+use Rattle.lgm_c.specs.Status.{number_of, no_memory, unrouted}
 
 -- ---- what C says of a payer
 
@@ -98,8 +105,8 @@ pub record AttemptParts : Type 0 where
   pub limits : RouteLimits
   pub budget : SearchBudget
 
-abbrev pub attempt_given : LgmPayment → OverlayParts → Entries → LgmSearch → AttemptParts
-attempt_given payment overlay known search = record {
+abbrev pub attempt_of : LgmPayment → OverlayParts → Entries → LgmSearch → AttemptParts
+attempt_of payment overlay known search = record {
   request = request_of payment;
   overlay = overlay;
   known = known;
@@ -108,9 +115,41 @@ attempt_given payment overlay known search = record {
   budget = budget_given search;
 }
 
+-- what C says, with what is believed of edges
+abbrev pub attempt_given : LgmAttempt → Entries → AttemptParts
+attempt_given attempt known =
+    attempt_of attempt.payment (overlay_given attempt.edges.now attempt.limits.now attempt.silent.now) known attempt.search
+
 -- a payment over the map alone
 abbrev pub plain_attempt : LgmPayment → AttemptParts
-plain_attempt payment = attempt_given payment no_overlay [] plain_search
+plain_attempt payment = attempt_of payment no_overlay [] plain_search
+
+-- ---- what is refused
+
+-- the edge carries no amount, since each is 1 msat or more
+abbrev pub lacks_maximum : PointEdge → Bool
+lacks_maximum edge = nat_eq edge.max 0
+
+-- which argument is wrong, if one is: more edges or limits than C may pass, or an edge without a maximum
+abbrev pub wrong_argument : OverlayParts → Option ArgumentFault
+wrong_argument overlay =
+    if nat_lt 100000 (length overlay.extra) then Some wrong.Edges
+    else if nat_lt 300000 (length overlay.limits) then Some wrong.Limits
+    else if list_any lacks_maximum overlay.extra then Some wrong.Maximum
+    else None
+
+abbrev pub first_fault : Option ArgumentFault → Bool → Option RouteFault → Option Fault
+first_fault (Some fault) full refused = Some (faults.Argument fault)
+first_fault None true refused = Some faults.Full
+first_fault None false (Some reason) = Some (unrouted reason)
+first_fault None false None = None
+
+-- why no route is searched for, whatever the edges are: a wrong argument, too many channels, or the payment is refused
+abbrev pub unsearched : AttemptParts → Rows → Option Fault
+unsearched attempt rows =
+    first_fault (wrong_argument attempt.overlay) (nat_lt 2000000000 (length rows.channels)) (refusal attempt.request)
+
+-- ---- the answer
 
 -- a payer that prefers nothing and believes nothing of any edge
 pub record PrefersNothing (attempt : AttemptParts) : Type 0 where
@@ -126,17 +165,19 @@ abbrev pub answer_for : AttemptParts → List PointEdge → Result (List Hop) Ro
 answer_for attempt edges =
     preferred_answer (penalty_at attempt.preferences attempt.known) attempt.limits edges attempt.request
 
--- its hops over the edges for an attempt, or why there is none; `Argument` with more edges than C may pass, and `Full` with
--- too many channels
+abbrev pub unless_wrong : Option ArgumentFault → Result (List Hop) Fault → Result (List Hop) Fault
+unless_wrong (Some fault) answer = Err (faults.Argument fault)
+unless_wrong None answer = answer
+
+-- its hops over the edges for an attempt, or why there is none: a wrong argument, `Full` with too many channels, or no route
 abbrev pub route_over : AttemptParts → Option (List ℕ) → Rows → Result (List Hop) Fault
 route_over attempt known rows =
-    if nat_lt 100000 (length attempt.overlay.extra) then Err faults.Argument
-    else routed_in rows (answer_for attempt (edges_for attempt known rows))
+    unless_wrong (wrong_argument attempt.overlay) (routed_in rows (answer_for attempt (edges_for attempt known rows)))
 
--- the search may stop before it found the best walk. Without preferences this takes a limit that excludes the one that
--- sends least of all
+-- the search may stop before it found the best walk: its budget can run out. Without preferences this takes a limit that excludes
+-- the walk that sends least of all
 pub record MayStop (attempt : AttemptParts) (known : Option (List ℕ)) (rows : Rows) : Type 0 where
-  pub bounded : IsBounded attempt.budget
+  pub used_up : IsUsedUp attempt.limits (edges_for attempt known rows) attempt.request attempt.budget
   pub beyond : PrefersNothing attempt → IsBeyond attempt.limits (edges_for attempt known rows) attempt.request
 
 -- the hops of some usable walk within the limits
@@ -160,3 +201,29 @@ WritesAttempt attempt (Some state) secret status old new = WritesTried attempt s
 abbrev pub entries_of : Option Entries → Entries
 entries_of None = []
 entries_of (Some entries) = entries
+
+-- ---- why there is no route
+
+-- 0 if there is a route
+abbrev pub explained_number : Option NoRouteReason → ℕ
+explained_number (Some reason) = reason_number reason
+explained_number None = 0
+
+-- the number of why there is no route over these edges, or that memory or the budget ran out
+abbrev pub TellsReason : AttemptParts → List PointEdge → ℕ → Type 0
+TellsReason attempt edges status =
+    ((found : Option NoRouteReason) × IsExplained found attempt.limits edges attempt.request × (status ≡ explained_number found))
+    ⊎ (status ≡ no_memory) ⊎ ((status ≡ number_of faults.Undecided) × IsBounded attempt.budget)
+
+-- that, or why no route is searched for
+abbrev pub ExplainsIf : Option Fault → AttemptParts → List PointEdge → ℕ → Type 0
+ExplainsIf (Some fault) attempt edges status = status ≡ number_of fault
+ExplainsIf None attempt edges status = TellsReason attempt edges status
+
+abbrev pub ExplainsIn : AttemptParts → Option (List ℕ) → Rows → ℕ → Type 0
+ExplainsIn attempt known rows status = ExplainsIf (unsearched attempt rows) attempt (edges_for attempt known rows) status
+
+-- so it is in the map of a handle
+abbrev pub Explains : AttemptParts → Option MapState → ℕ → Type 0
+Explains attempt None status = status ≡ number_of faults.Closed
+Explains attempt (Some state) status = ExplainsIn attempt state.known state.rows status

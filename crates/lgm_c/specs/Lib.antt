@@ -1,4 +1,5 @@
 pub mod MapState
+pub mod Arguments
 pub mod Status
 pub mod Writing
 pub mod Evidence
@@ -14,5 +15,6 @@ pub mod Arrivals
 pub mod Looking
 pub mod Listing
 pub mod Estimating
+pub mod Decoding
 pub mod Words
 pub mod inner

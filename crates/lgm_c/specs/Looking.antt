@@ -8,6 +8,7 @@ use Rattle.lgm_store.specs.Rows.{Rows, channel_of, update_of, node_of}
 use Rattle.lgm_c.specs.declared.lookups.LgmDirection.{LgmDirection}
 use Rattle.lgm_c.specs.declared.lookups.LgmChannel.{LgmChannel}
 use Rattle.lgm_c.specs.declared.lookups.LgmNode.{LgmNode}
+use Rattle.lgm_c.specs.declared.argument_fault.ArgumentFault.TheVariants as wrong
 use Rattle.lgm_c.specs.declared.fault.Fault.{Fault}
 use Rattle.lgm_c.specs.declared.fault.Fault.TheVariants as faults
 use Rattle.lgm_c.specs.Status.{number_of}
@@ -89,7 +90,7 @@ channel_message_found id which rows =
     if which == 0 then announcement_in (channel_of rows.channels id)
     else if which == 1 then update_in (channel_of rows.channels id) (update_of rows.updates id false)
     else if which == 2 then update_in (channel_of rows.channels id) (update_of rows.updates id true)
-    else Err faults.Argument
+    else Err (faults.Argument wrong.Which)
 
 -- the bytes of a node's announcement
 abbrev pub bytes_of_node : Result NodeRow Fault → Result (List ℕ) Fault

@@ -1,5 +1,5 @@
 -- What offering a message or a close does to the state of a handle.
-use Rattle.std.specs.Prelude.{◌≡◌, ◌⊎◌, ℕ, not, List, Option, Some, None, Result, Ok, Err}
+use Rattle.std.specs.Prelude.{◌≡◌, ◌⊎◌, ℕ, not, List, Option, Some, Result, Ok, Err}
 use Rattle.lgm_wire.specs.reading.Reading.{◌>>=◌}
 use Rattle.lgm_wire.specs.declared.chain_hash.ChainHash.{ChainHash}
 use Rattle.lgm_wire.specs.declared.point.Point.{Point}
@@ -14,6 +14,7 @@ use Rattle.lgm_store.specs.declared.op.Op.TheVariants as ops
 use Rattle.lgm_store.specs.Rows.{Rows, is_banned}
 use Rattle.lgm_store.specs.Admission.{admitted, admitted_close}
 use Rattle.lgm_store.specs.History.{absorbed}
+use Rattle.lgm_c.specs.declared.argument_fault.ArgumentFault.{ArgumentFault}
 use Rattle.lgm_c.specs.declared.fault.Fault.TheVariants as faults
 use Rattle.lgm_c.specs.Changing.{Changes}
 use Rattle.lgm_c.specs.MapState.{MapState, next_version}
@@ -40,12 +41,12 @@ Does takes outcome old status new =
 
 -- a message is offered to a map, with the verdicts on it if the numbers stand for some; a refusal is returned even if
 -- memory is short, unless decoding the message allocates
-abbrev pub OffersTo : List ℕ → Option Evidence → MapState → ℕ → Option MapState → Type 0
-OffersTo bytes None old status new = (status ≡ number_of faults.Argument) × (new ≡ Some old)
-OffersTo bytes (Some evidence) old status new =
+abbrev pub OffersTo : List ℕ → Result Evidence ArgumentFault → MapState → ℕ → Option MapState → Type 0
+OffersTo bytes (Err wrong) old status new = (status ≡ number_of (faults.Argument wrong)) × (new ≡ Some old)
+OffersTo bytes (Ok evidence) old status new =
     Does (TakesMemory bytes) (offered_to old.chain old.rows bytes evidence) old status new
 
-abbrev pub Offers : List ℕ → Option Evidence → ℕ → Option MapState → Option MapState → Type 0
+abbrev pub Offers : List ℕ → Result Evidence ArgumentFault → ℕ → Option MapState → Option MapState → Type 0
 Offers bytes evidence = Changes (OffersTo bytes evidence)
 
 -- a channel is closed; a refusal allocates nothing

@@ -14,8 +14,6 @@ abbrev pub Opens : {H : Type 0} → H → ℕ → Option H → Option H → Type
 Opens state status None new = ((status ≡ 0) × (new ≡ Some state)) ⊎ ((status ≡ no_memory) × (new ≡ None))
 Opens state status (Some old) new = (status ≡ number_of faults.Open) × (new ≡ Some old)
 
--- the mark moves to the rows, unless memory runs out
+-- the mark moves to the rows
 abbrev pub MovesMark : ℕ → Option MapState → Option MapState → Type 0
-MovesMark = Changes (λ old status new.
-    ((status ≡ 0) × (new ≡ Some (record old { marked = old.rows })))
-    ⊎ ((status ≡ no_memory) × (new ≡ Some old)))
+MovesMark = Changes (λ old status new. (status ≡ 0) × (new ≡ Some (record old { marked = old.rows })))

@@ -1,5 +1,6 @@
 -- Published maps: each has what a map had, for good.
 use Rattle.std.specs.Prelude.{◌≡◌, ℕ, Bool, true, false, Option, Some, None}
+use Rattle.lgm_c.specs.declared.argument_fault.ArgumentFault.TheVariants as wrong
 use Rattle.lgm_c.specs.declared.fault.Fault.TheVariants as faults
 use Rattle.lgm_c.specs.MapState.{MapState, published}
 use Rattle.lgm_c.specs.Opening.{Opens}
@@ -14,7 +15,7 @@ Publishes (Some state) status old new = Opens (published state) status old new
 -- one more handle has a map if that is a published one; one that changes isn't shared
 abbrev pub SharesIf : Bool → MapState → ℕ → Option MapState → Option MapState → Type 0
 SharesIf true state status old new = Opens state status old new
-SharesIf false state status old new = (status ≡ number_of faults.Argument) × (new ≡ old)
+SharesIf false state status old new = (status ≡ number_of (faults.Argument wrong.Published)) × (new ≡ old)
 
 abbrev pub Shares : Option MapState → ℕ → Option MapState → Option MapState → Type 0
 Shares None status old new = (status ≡ number_of faults.Closed) × (new ≡ old)

@@ -2,7 +2,6 @@
 use Rattle.std.specs.Prelude.{◌≡◌, ◌⊎◌, ℕ, ◌<◌, nat_lt, Bool, true, false, List, map, length, Option, Result, Ok, Err, if◌then◌else◌}
 use Rattle.std.specs.List.{flat_map, zip}
 use Rattle.lgm_store.specs.Rows.{Rows}
-use Rattle.lgm_graph.specs.declared.view.TheConstants.{MAX_CHANNELS}
 use Rattle.lgm_graph.specs.Edges.{edges_of}
 use Rattle.lgm_route.specs.Choice.{answer_of}
 use Rattle.lgm_route.specs.declared.request.Request.{Request}
@@ -33,7 +32,7 @@ found_or_unrouted (Err reason) = Err (unrouted reason)
 -- an answer over the edges of rows; `Full` with too many channels
 abbrev pub routed_in : Rows → Result (List Hop) RouteFault → Result (List Hop) Fault
 routed_in rows answer =
-    if nat_lt MAX_CHANNELS (length rows.channels) then Err faults.Full else found_or_unrouted answer
+    if nat_lt 2000000000 (length rows.channels) then Err faults.Full else found_or_unrouted answer
 
 -- the hops of the best walk over the edges of the rows, for a payer who knows these feature bits, or why there is none
 abbrev pub route_for : Request → Option (List ℕ) → Rows → Result (List Hop) Fault

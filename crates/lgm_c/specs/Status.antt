@@ -9,8 +9,10 @@ use Rattle.lgm_route.specs.declared.found.SearchFault.{SearchFault}
 use Rattle.lgm_route.specs.declared.found.SearchFault.TheVariants as searched
 use Rattle.lgm_payload.specs.declared.arrival_fault.ArrivalFault.{ArrivalFault}
 use Rattle.lgm_payload.specs.declared.arrival_fault.ArrivalFault.TheVariants as arrivals
+use Rattle.lgm_c.specs.declared.argument_fault.ArgumentFault.TheVariants as wrong
 use Rattle.lgm_c.specs.declared.fault.Fault.{Fault}
 use Rattle.lgm_c.specs.declared.fault.Fault.TheVariants as faults
+use Rattle.lgm_c.specs.Arguments.{argument_number}
 
 abbrev pub no_memory : ℕ
 no_memory = 102
@@ -38,11 +40,11 @@ number_of faults.NotAnnounced = 33
 number_of faults.Closed = 100
 number_of faults.Open = 101
 number_of faults.NoMemory = no_memory
-number_of faults.Argument = 103
 number_of faults.Room = 104
 number_of faults.Full = 105
 number_of faults.Published = 106
 number_of faults.None = 107
+number_of (faults.Argument fault) = argument_number fault
 
 -- a refusal of an item, and a reason why a payment has no route; out of memory is neither
 abbrev pub refused : Refusal → Fault
@@ -61,7 +63,9 @@ unfound searched.Undecided = faults.Undecided
 -- why there are no payloads: a wrong argument, or out of memory
 abbrev pub unbuilt : ArrivalFault → Fault
 unbuilt arrivals.NoMemory = faults.NoMemory
-unbuilt reason = faults.Argument
+unbuilt arrivals.Reserved = faults.Argument wrong.RecordType
+unbuilt arrivals.Order = faults.Argument wrong.RecordOrder
+unbuilt arrivals.TooLong = faults.Argument wrong.Payloads
 
 -- whether a call may run out of memory: one that succeeds may, one that returns a fault only if finding it allocates
 abbrev pub MayRunOut : {A E : Type 0} → Type 0 → Result A E → Type 0

@@ -1,11 +1,15 @@
 -- The words of numbers.
-use Rattle.std.specs.Prelude.{ℕ, ◌==◌, if◌then◌else◌, List, [], replicate, codes, Option, Some, None}
+use Rattle.std.specs.Prelude.{ℕ, ◌==◌, if◌then◌else◌, List, replicate, codes, Option, Some, None}
 use Rattle.lgm_check.specs.declared.refusal.Refusal.{Refusal}
 use Rattle.lgm_check.specs.declared.refusal.Refusal.TheVariants as refusals
 use Rattle.lgm_check.specs.Refusal.{word_of}
 use Rattle.lgm_route.specs.declared.fault.RouteFault.{RouteFault}
 use Rattle.lgm_route.specs.declared.fault.RouteFault.TheVariants as reasons
 use Rattle.lgm_route.specs.Words.{route_word}
+use Rattle.lgm_route.specs.declared.no_route.NoRouteReason.{NoRouteReason}
+use Rattle.lgm_route.specs.declared.no_route.NoRouteReason.TheVariants as no_routes
+use Rattle.lgm_route.specs.Reasons.{reason_word}
+use Rattle.lgm_c.specs.Decoding.{decode_word}
 use Rattle.lgm_c.specs.Writing.{in_front}
 
 abbrev pub refusal_at : ℕ → Option Refusal
@@ -37,6 +41,18 @@ reason_at number =
     else if number == 25 then Some reasons.NoRoute
     else None
 
+abbrev pub no_route_at : ℕ → Option NoRouteReason
+no_route_at number =
+    if number == 41 then Some no_routes.PayerHasNoChannel
+    else if number == 42 then Some no_routes.PayeeTakesNoPayment
+    else if number == 43 then Some no_routes.PayerLacksAmount
+    else if number == 44 then Some no_routes.PayeeLacksAmount
+    else if number == 45 then Some no_routes.Unconnected
+    else if number == 46 then Some no_routes.BeyondDelay
+    else if number == 47 then Some no_routes.BeyondHops
+    else if number == 48 then Some no_routes.BeyondBoth
+    else None
+
 abbrev pub word_of_call : ℕ → List ℕ
 word_of_call number =
     if number == 0 then codes "accepted"
@@ -48,21 +64,21 @@ word_of_call number =
     else if number == 100 then codes "closed"
     else if number == 101 then codes "open"
     else if number == 102 then codes "no-memory"
-    else if number == 103 then codes "argument"
     else if number == 104 then codes "room"
     else if number == 105 then codes "full"
     else if number == 106 then codes "published"
     else if number == 107 then codes "none"
-    else []
+    else decode_word number
 
-abbrev pub word_by : Option Refusal → Option RouteFault → ℕ → List ℕ
-word_by (Some refusal) reason number = word_of refusal
-word_by None (Some reason) number = route_word reason
-word_by None None number = word_of_call number
+abbrev pub word_by : Option Refusal → Option RouteFault → Option NoRouteReason → ℕ → List ℕ
+word_by (Some refusal) reason unreached number = word_of refusal
+word_by None (Some reason) unreached number = route_word reason
+word_by None None (Some unreached) number = reason_word unreached
+word_by None None None number = word_of_call number
 
 -- the word of a refusal, of a reason why there is no route, or of another result
 unfoldable pub word_at : ℕ → List ℕ
-word_at number = word_by (refusal_at number) (reason_at number) number
+word_at number = word_by (refusal_at number) (reason_at number) (no_route_at number) number
 
 -- a word in 24 bytes, padded with zeros
 abbrev pub padded : List ℕ → List ℕ

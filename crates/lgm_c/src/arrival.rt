@@ -9,6 +9,7 @@ ghost use Rattle.lgm_c.specs.Arrivals.{Follows, AreJoined, IsRoute, built_or_fau
 ghost use Rattle.lgm_c.specs.Routing.{buffers};
 ghost use Rattle.lgm_c.specs.Status.{status_of};
 
+use crate::argument_fault::ArgumentFault;
 use crate::fault::{Fault, status};
 use crate::routes::{LgmHop, LgmLengths, c_hops, joined, write_hops};
 use lgm_gossip::{Bytes, Point, Scid};
@@ -174,7 +175,7 @@ pub extern "C" fn lgm_payloads(
         (buffers hops.new payloads.new lengths.new) }
 {
     if !is_route(hops) {
-        return Fault::Argument.number();
+        return Fault::Argument(ArgumentFault::Hops).number();
     }
     status(&write_built(alloc, arrival, hops, payloads, lengths))
 }

@@ -1,9 +1,12 @@
 //! What a payer knows beside the map and prefers, as C says it, and payments over it within limits.
 
-ghost use Rattle.std.specs.Prelude.{◌≡◌, [], map, length, IfOk};
-ghost use Rattle.lgm_c.specs.Attempts.{extra_given, limit_given, point_given, overlay_given, attempt_given, plain_attempt};
+ghost use Rattle.std.specs.Prelude.{◌≡◌, [], map, nat_eq, IfOk};
+ghost use Rattle.std.specs.List.{list_any};
+ghost use Rattle.lgm_c.specs.Attempts.{extra_given, limit_given, point_given, overlay_given, attempt_of, attempt_given};
+ghost use Rattle.lgm_c.specs.Attempts.{plain_attempt, lacks_maximum, wrong_argument};
 ghost use Rattle.lgm_c.specs.Attempts.{preferences_given, limits_given, budget_given, plain_search};
 
+use crate::argument_fault::ArgumentFault;
 use crate::routes::{LgmPayment, request_of};
 use lgm_gossip::{Point, Scid};
 use lgm_graph::{Estimates, ExtraEdge, Limit, Overlay};
@@ -13,6 +16,9 @@ use std::marker::Model;
 
 /// The most edges beside the map's of one call, so that a view numbers their nodes behind those of any map.
 pub(crate) const MOST_EDGES: usize = 100_000;
+
+/// The most limits of one call.
+pub(crate) const MOST_LIMITS: usize = 300_000;
 
 /// The most steps of a search for which none are given: some 0.2 seconds.
 pub(crate) const MOST_STEPS: u64 = 5_000_000;
@@ -28,7 +34,7 @@ pub struct LgmEdge {
     pub scid: u64,
     /// The least amount of a payment over it, in msat.
     pub htlc_minimum_msat: u64,
-    /// The greatest amount that it carries, in msat.
+    /// The greatest amount that it carries, in msat: at least 1.
     pub htlc_maximum_msat: u64,
     /// The base fee, in msat.
     pub fee_base_msat: u32,
@@ -79,6 +85,23 @@ pub struct LgmSearch {
     pub most_delay: u16,
     /// The most channels, up to 20. 0 stands for 20.
     pub most_hops: u8,
+}
+
+/// A payment to be tried: over what its payer knows beside the map, by what it prefers, within limits. All zeros but the
+/// payment are a payment over the map alone.
+#[repr(C)]
+#[derive(Clone, Copy)]
+pub struct LgmAttempt<'a> {
+    /// The payment.
+    pub payment: LgmPayment,
+    /// Edges beside the map's: of those with one id out of one node the first counts.
+    pub edges: &'a [LgmEdge],
+    /// Limits of what edges carry: the least one of an edge counts.
+    pub limits: &'a [LgmLimit],
+    /// Nodes whose edges in the map aren't used.
+    pub silent: &'a [LgmPoint],
+    /// What the payer prefers, and limits of the route and of the search for it.
+    pub search: LgmSearch,
 }
 
 impl LgmSearch {
@@ -138,6 +161,13 @@ impl LgmSearch {
             },
         }
     }
+}
+
+/// Whether the maximum of one of the edges is 0 msat.
+fn any_carries_nothing(edges: &[LgmEdge]) -> bool
+    ensures { result ≡ list_any (λ edge. nat_eq edge.htlc_maximum_msat 0) edges.now }
+{
+    edges.iter().any(|edge| edge.htlc_maximum_msat == 0)
 }
 
 fn extra_edge(edge: &LgmEdge) -> ExtraEdge
@@ -203,16 +233,16 @@ fn with_silent(overlay: Overlay, silent: &[LgmPoint]) -> Result<Overlay, AllocEr
 /// A payment over what its payer knows and prefers, within limits. Contracts see the request, the overlay, what is known of
 /// edges, the preferences, the limits and the budget.
 #[derive(Drop)]
-pub struct Attempt<'a> {
+pub struct Attempt<'a, 'e> {
     request: Request,
     edges: &'a [LgmEdge],
     limits: &'a [LgmLimit],
     silent: &'a [LgmPoint],
-    estimates: &'a Estimates,
+    estimates: &'e Estimates,
     search: LgmSearch,
 }
 
-impl<'a> Model for Attempt<'a> {
+impl<'a, 'e> Model for Attempt<'a, 'e> {
     ghost use Rattle.lgm_c.specs.Attempts.{AttemptParts, overlay_given, preferences_given, limits_given, budget_given};
 
     ghost Value = { AttemptParts };
@@ -227,25 +257,39 @@ impl<'a> Model for Attempt<'a> {
     } };
 }
 
-impl<'a> Attempt<'a> {
+impl<'a, 'e> Attempt<'a, 'e> {
     /// A payment over the map alone, of a payer that knows nothing and prefers nothing.
-    pub(crate) fn plain(payment: &LgmPayment, nothing: &'a Estimates) -> Attempt<'a>
+    pub(crate) fn plain(payment: &LgmPayment, nothing: &'e Estimates) -> Attempt<'a, 'e>
         requires { nothing.now ≡ [] }
         ensures { result ≡ plain_attempt payment.now }
     {
         Attempt::of(payment, &[], &[], &[], nothing, &LgmSearch::plain())
     }
 
+    /// The attempt that C says.
+    pub(crate) fn given(attempt: &LgmAttempt<'a>, estimates: &'e Estimates) -> Attempt<'a, 'e>
+        ensures { result ≡ attempt_given attempt.now estimates.now }
+    {
+        Attempt::of(
+            &attempt.payment,
+            attempt.edges,
+            attempt.limits,
+            attempt.silent,
+            estimates,
+            &attempt.search,
+        )
+    }
+
     /// A payment over this.
-    pub(crate) fn of(
+    fn of(
         payment: &LgmPayment,
         edges: &'a [LgmEdge],
         limits: &'a [LgmLimit],
         silent: &'a [LgmPoint],
-        estimates: &'a Estimates,
+        estimates: &'e Estimates,
         search: &LgmSearch,
-    ) -> Attempt<'a>
-        ensures { result ≡ attempt_given payment.now (overlay_given edges.now limits.now silent.now) estimates.now search.now }
+    ) -> Attempt<'a, 'e>
+        ensures { result ≡ attempt_of payment.now (overlay_given edges.now limits.now silent.now) estimates.now search.now }
     {
         Attempt {
             request: request_of(payment),
@@ -292,11 +336,26 @@ impl<'a> Attempt<'a> {
         self.search.budget()
     }
 
-    /// The number of edges beside the map's.
-    pub(crate) fn extra_edges(&self) -> usize
-        ensures { result ≡ length self.now.overlay.extra }
+    /// Whether one of the edges has no maximum: it would carry nothing.
+    fn lacks_maximum(&self) -> bool
+        ensures { result ≡ list_any lacks_maximum self.now.overlay.extra }
     {
-        self.edges.len()
+        any_carries_nothing(self.edges)
+    }
+
+    /// Which argument is wrong, if one is.
+    pub(crate) fn wrong_argument(&self) -> Option<ArgumentFault>
+        ensures { result ≡ wrong_argument self.now.overlay }
+    {
+        if MOST_EDGES < self.edges.len() {
+            Some(ArgumentFault::Edges)
+        } else if MOST_LIMITS < self.limits.len() {
+            Some(ArgumentFault::Limits)
+        } else if self.lacks_maximum() {
+            Some(ArgumentFault::Maximum)
+        } else {
+            None
+        }
     }
 
     /// What is known beside the map. The only error is out of memory.

@@ -8,12 +8,14 @@ ghost use Rattle.lgm_c.specs.Opening.{MovesMark};
 ghost use Rattle.lgm_c.specs.Status.{status_of};
 ghost use Rattle.lgm_c.specs.Writing.{all_framed, buffer};
 ghost use Rattle.lgm_c.specs.inner.Framing.{MayWrite};
+ghost use Rattle.lgm_c.specs.Attempts.{ExplainsIn};
 ghost use Rattle.lgm_c.specs.inner.Searching.{IsRouted};
 
+use crate::argument_fault::ArgumentFault;
 use crate::attempt::Attempt;
 use crate::fault::Fault;
 use crate::frames::{write_first_news, write_marked_news};
-use crate::search::{is_searched, search};
+use crate::search::{is_searched, reason, reason_number, search};
 use crate::verdict::{ban, close, offer};
 use lgm_check::Evidence;
 use lgm_gossip::{ChainHash, Point, Scid};
@@ -52,7 +54,7 @@ impl Model for ChainMap {
 }
 
 impl ChainMap {
-    /// A map with no rows and no mark, whose points are hashed by the seed. The only error is out of memory.
+    /// A map with no rows, and its mark, whose points are hashed by the seed. The only error is out of memory.
     pub(crate) fn new(
         alloc: Global,
         chain: ChainHash,
@@ -68,19 +70,19 @@ impl ChainMap {
         })
     }
 
-    /// Offers a message, with the verdicts on it, if there are some.
+    /// Offers a message, with the verdicts on it, unless a number stands for none.
     pub(crate) fn offer(
         &mut self,
         alloc: Global,
         bytes: &[u8],
-        evidence: Option<Evidence>,
+        evidence: Result<Evidence, ArgumentFault>,
     ) -> Result<(), Fault>
         ensures { Offers bytes.now evidence (status_of result) (Some self.old) (Some self.new) }
     {
         match (&mut self.kind, evidence) {
             (MapKind::Published(_), _) => Err(Fault::Published),
-            (MapKind::Changing(_), None) => Err(Fault::Argument),
-            (MapKind::Changing(timeline), Some(evidence)) => {
+            (MapKind::Changing(_), Err(fault)) => Err(Fault::Argument(fault)),
+            (MapKind::Changing(timeline), Ok(evidence)) => {
                 Ok(offer(alloc, timeline, &self.chain, bytes, &evidence)?)
             }
         }
@@ -106,12 +108,12 @@ impl ChainMap {
         }
     }
 
-    /// Moves the mark to the map as it is, or sets the first one. Out of memory changes nothing.
-    pub(crate) fn renew_mark(&mut self, alloc: Global) -> Result<(), Fault>
+    /// Moves the mark to the map as it is.
+    pub(crate) fn renew_mark(&mut self) -> Result<(), Fault>
         ensures { MovesMark (status_of result) (Some self.old) (Some self.new) }
     {
         match &mut self.kind {
-            MapKind::Changing(timeline) => Ok(timeline.renew_mark(alloc)?),
+            MapKind::Changing(timeline) => Ok(timeline.renew_mark()),
             MapKind::Published(_) => Err(Fault::Published),
         }
     }
@@ -138,7 +140,7 @@ impl ChainMap {
     }
 
     /// The best route for an attempt. In a map that changes, the first search builds the view.
-    pub(crate) fn route(&mut self, alloc: Global, attempt: &Attempt<'_>) -> Result<Found, Fault>
+    pub(crate) fn route(&mut self, alloc: Global, attempt: &Attempt<'_, '_>) -> Result<Found, Fault>
         ensures same { self.new ≡ self.old }
         ensures route { IsRouted attempt.now self.old.known self.old.rows result }
     {
@@ -149,6 +151,27 @@ impl ChainMap {
                 search(alloc, timeline.network(), attempt)
             }
             MapKind::Published(edition) => search(alloc, edition.network(), attempt),
+        }
+    }
+
+    /// The number of why there is no route for an attempt: 0 if there is one.
+    pub(crate) fn no_route_reason(&mut self, alloc: Global, attempt: &Attempt<'_, '_>) -> u32
+        ensures same { self.new ≡ self.old }
+        ensures reason { ExplainsIn attempt.now self.old.known self.old.rows result }
+    {
+        if let Err(fault) = is_searched(self.map(), attempt) {
+            return fault.number();
+        }
+        match &mut self.kind {
+            MapKind::Changing(timeline) => {
+                if timeline.make_view(alloc).is_err() {
+                    return Fault::NoMemory.number();
+                }
+                reason_number(reason(alloc, timeline.network(), attempt))
+            }
+            MapKind::Published(edition) => {
+                reason_number(reason(alloc, edition.network(), attempt))
+            }
         }
     }
 

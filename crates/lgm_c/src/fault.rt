@@ -3,8 +3,9 @@
 ghost use Rattle.std.specs.Prelude.{◌≡◌};
 ghost use Rattle.lgm_c.specs.Asking.{fault_of};
 ghost use Rattle.lgm_c.specs.Status.{number_of, status_of, refused, unrouted, unfound, unbuilt};
-ghost use Rattle.lgm_c.specs.declared.fault.Fault.TheVariants.{NoMemory};
+ghost use Rattle.lgm_c.specs.declared.fault.Fault.TheVariants.{NoMemory, Argument};
 
+use crate::argument_fault::ArgumentFault;
 use lgm_check::Refusal;
 use lgm_payload::ArrivalFault;
 use lgm_query::RequestFault;
@@ -33,9 +34,6 @@ pub(crate) enum Fault {
     Open,
     /// 102: out of memory.
     NoMemory,
-    /// 103: a number that stands for nothing, too many edges, a map that changes where a published one is to be shared, hops
-    /// that are no route, or an arrival that has no payloads.
-    Argument,
     /// 104: a buffer is too short for the answer.
     Room,
     /// 105: the map has too many channels for a route search.
@@ -44,6 +42,8 @@ pub(crate) enum Fault {
     Published,
     /// 107: there is none: no key above the given one, or no such message.
     None,
+    /// 110 to 120: an argument is wrong.
+    Argument(ArgumentFault),
 }
 
 impl Fault {
@@ -69,11 +69,11 @@ impl Fault {
             Fault::Closed => 100,
             Fault::Open => 101,
             Fault::NoMemory => 102,
-            Fault::Argument => 103,
             Fault::Room => 104,
             Fault::Full => 105,
             Fault::Published => 106,
             Fault::None => 107,
+            Fault::Argument(fault) => fault.number(),
         }
     }
 }
@@ -141,13 +141,23 @@ impl From<SearchFault> for Fault {
     }
 }
 
+impl From<ArgumentFault> for Fault {
+    ghost from_gives = { λ wrong fault. fault ≡ Argument wrong };
+
+    fn from(fault: ArgumentFault) -> Fault {
+        Fault::Argument(fault)
+    }
+}
+
 impl From<ArrivalFault> for Fault {
     ghost from_gives = { λ reason fault. fault ≡ unbuilt reason };
 
     fn from(reason: ArrivalFault) -> Fault {
         match reason {
             ArrivalFault::NoMemory => Fault::NoMemory,
-            ArrivalFault::Reserved | ArrivalFault::Order | ArrivalFault::TooLong => Fault::Argument,
+            ArrivalFault::Reserved => Fault::Argument(ArgumentFault::RecordType),
+            ArrivalFault::Order => Fault::Argument(ArgumentFault::RecordOrder),
+            ArrivalFault::TooLong => Fault::Argument(ArgumentFault::Payloads),
         }
     }
 }

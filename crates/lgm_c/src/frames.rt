@@ -186,7 +186,7 @@ fn write_news(
     write_bytes(&framed, room, needed)
 }
 
-/// Writes the news since the mark of a map that changes, as [`write_replies`] does. Before the first mark, all that passes.
+/// Writes the news since the mark of a map that changes, as [`write_replies`] does.
 pub(crate) fn write_marked_news(
     alloc: Global,
     timeline: &mut Timeline,
@@ -200,8 +200,5 @@ pub(crate) fn write_marked_news(
         (buffer room.old needed.old) (buffer room.new needed.new) }
 {
     timeline.reach_mark()?;
-    match timeline.map_diff(alloc)? {
-        Some(map_diff) => write_news(alloc, &map_diff, filter, room, needed),
-        None => write_first_news(alloc, timeline.network().map(), filter, room, needed),
-    }
+    write_news(alloc, &timeline.map_diff(alloc)?, filter, room, needed)
 }

@@ -8,11 +8,13 @@
 //! `LGM_ROOM` comes with: the lengths, and the node of `lgm_node`.
 #![tactic(auto)]
 
+mod argument_fault;
 mod arrival;
 mod attempt;
 mod boxes;
 mod chain_map;
 mod changes;
+mod decoding;
 mod estimates;
 mod estimates_handle;
 mod evidence;

@@ -1,10 +1,11 @@
 //! Publishing and sharing maps.
 
-ghost use Rattle.std.specs.Prelude.{◌≡◌, None, IfOk};
+ghost use Rattle.std.specs.Prelude.{◌≡◌, None, is_some, IfOk};
 ghost use Rattle.lgm_c.specs.MapState.{MapState, published};
 ghost use Rattle.lgm_c.specs.Opening.{Opens};
 ghost use Rattle.lgm_c.specs.Published.{Publishes, SharesIf, Shares, version_of};
 
+use crate::argument_fault::ArgumentFault;
 use crate::boxes::boxed;
 use crate::chain_map::ChainMap;
 use crate::fault::Fault;
@@ -37,12 +38,14 @@ fn hand(alloc: Global, state: Result<ChainMap, AllocError>, to: &mut LgmMap) -> 
     }
 }
 
-/// Opens a closed handle with a map as it is now, for good.
-fn publish(alloc: Global, state: &mut ChainMap, to: &mut LgmMap) -> u32
+/// Opens a closed handle with a map as it is now, for good. Whether it is open was seen before the map was taken out: a caller
+/// may pass the map's own handle.
+fn publish(alloc: Global, state: &mut ChainMap, is_open: bool, to: &mut LgmMap) -> u32
+    requires { is_open ≡ is_some to.old.handle.value }
     ensures same { state.new ≡ state.old }
     ensures published { Opens (published state.old) result to.old.handle.value to.new.handle.value }
 {
-    if to.is_open() {
+    if is_open {
         return Fault::Open.number();
     }
     hand(alloc, state.publish(alloc), to)
@@ -55,18 +58,24 @@ pub extern "C" fn lgm_publish(alloc: Global, map: &mut LgmMap, published: &mut L
     ensures published { Publishes map.old.handle.value result
         published.old.handle.value published.new.handle.value }
 {
-    with_state!(alloc, map, |state| publish(alloc, &mut state, published))
+    let is_open = published.is_open();
+    with_state!(
+        alloc,
+        map,
+        |state| publish(alloc, &mut state, is_open, published)
+    )
 }
 
 /// Opens a closed handle with a map, if that is a published one.
-fn share(alloc: Global, state: &mut ChainMap, to: &mut LgmMap) -> u32
+fn share(alloc: Global, state: &mut ChainMap, is_open: bool, to: &mut LgmMap) -> u32
+    requires { is_open ≡ is_some to.old.handle.value }
     ensures same { state.new ≡ state.old }
     ensures shared { SharesIf state.old.is_published state.old result to.old.handle.value to.new.handle.value }
 {
     if !state.is_published() {
-        return Fault::Argument.number();
+        return Fault::Argument(ArgumentFault::Published).number();
     }
-    publish(alloc, state, to)
+    publish(alloc, state, is_open, to)
 }
 
 /// Opens a closed handle with what a published map has, which costs no copy: one more owner, for another thread.
@@ -76,7 +85,12 @@ pub extern "C" fn lgm_share(alloc: Global, published: &mut LgmMap, other: &mut L
     ensures shared { Shares published.old.handle.value result
         other.old.handle.value other.new.handle.value }
 {
-    with_state!(alloc, published, |state| share(alloc, &mut state, other))
+    let is_open = other.is_open();
+    with_state!(
+        alloc,
+        published,
+        |state| share(alloc, &mut state, is_open, other)
+    )
 }
 
 /// How many messages and closes the map had accepted, when it was published or so far: 0 of a closed handle.

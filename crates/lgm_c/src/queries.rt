@@ -244,5 +244,5 @@ pub extern "C" fn lgm_news_between(
 pub extern "C" fn lgm_mark(alloc: Global, map: &mut LgmMap) -> u32
     ensures { MovesMark result map.old.handle.value map.new.handle.value }
 {
-    with_state!(alloc, map, |state| status(&state.renew_mark(alloc)))
+    with_state!(alloc, map, |state| status(&state.renew_mark()))
 }

@@ -1,15 +1,14 @@
 //! Routes of payments.
 
-ghost use Rattle.std.specs.Prelude.{◌≡◌, ℕ, List, Option, IfOk};
+ghost use Rattle.std.specs.Prelude.{◌≡◌, ℕ, [], List, Option, IfOk};
 ghost use Rattle.lgm_store.specs.Rows.{Rows};
 ghost use Rattle.lgm_c.specs.Routing.{request_of, route_asked, c_hop, c_hops, all_payloads};
 ghost use Rattle.lgm_c.specs.Routing.{AreWritten, WritesHops, WritesRoute, buffers, number_written, status_as};
-ghost use Rattle.lgm_c.specs.Attempts.{AttemptParts, overlay_given, attempt_given, entries_of};
-ghost use Rattle.lgm_c.specs.Attempts.{WritesAttempt, WritesTried};
+ghost use Rattle.lgm_c.specs.Attempts.{AttemptParts, attempt_given, entries_of, Explains, WritesAttempt, WritesTried};
 ghost use Rattle.lgm_c.specs.inner.Searching.{IsRouted};
 ghost use Rattle.lgm_c.specs.Status.{if_open};
 
-use crate::attempt::{Attempt, LgmEdge, LgmLimit, LgmPoint, LgmSearch};
+use crate::attempt::{Attempt, LgmAttempt};
 use crate::chain_map::ChainMap;
 use crate::estimates::LgmEstimates;
 use crate::fault::Fault;
@@ -200,7 +199,7 @@ fn write_found(
 fn write_tried(
     alloc: Global,
     state: &mut ChainMap,
-    attempt: &Attempt<'_>,
+    attempt: &Attempt<'_, '_>,
     secret: &[u8; 32],
     hops: &mut [LgmHop],
     payloads: &mut [u8],
@@ -273,7 +272,7 @@ pub extern "C" fn lgm_route(
 fn write_attempt(
     alloc: Global,
     map: &mut LgmMap,
-    attempt: &Attempt<'_>,
+    attempt: &Attempt<'_, '_>,
     secret: &[u8; 32],
     hops: &mut [LgmHop],
     payloads: &mut [u8],
@@ -295,55 +294,50 @@ fn write_attempt(
 /// edges carry, and nodes whose edges in the map aren't used, within limits of its delay and of its hops. If the search stops
 /// before it is found, the best route so far. A closed handle of estimates is one in which nothing is known.
 #[unsafe(no_mangle)]
-pub extern "C" fn lgm_route_over(
+pub extern "C" fn lgm_attempt_route(
     alloc: Global,
     map: &mut LgmMap,
-    payment: &LgmPayment,
-    edges: &[LgmEdge],
-    limits: &[LgmLimit],
-    silent: &[LgmPoint],
+    attempt: &LgmAttempt<'_>,
     estimates: &mut LgmEstimates,
-    search: &LgmSearch,
     hops: &mut [LgmHop],
     payloads: &mut [u8],
     lengths: &mut LgmLengths,
 ) -> u32
     ensures same { map.new.handle.value ≡ map.old.handle.value }
     ensures kept { estimates.new.handle.value ≡ estimates.old.handle.value }
-    ensures route { WritesAttempt
-        (attempt_given payment.now (overlay_given edges.now limits.now silent.now)
-        (entries_of estimates.old.handle.value) search.now)
-        map.old.handle.value payment.now.secret result
+    ensures route { WritesAttempt (attempt_given attempt.now (entries_of estimates.old.handle.value))
+        map.old.handle.value attempt.now.payment.secret result
         (buffers hops.old payloads.old lengths.old)
         (buffers hops.new payloads.new lengths.new) }
 {
+    let secret = &attempt.payment.secret;
     match estimates.take(alloc) {
         Some(known) => {
-            let attempt = Attempt::of(payment, edges, limits, silent, &known, search);
-            let answer = write_attempt(
-                alloc,
-                map,
-                &attempt,
-                &payment.secret,
-                hops,
-                payloads,
-                lengths,
-            );
+            let given = Attempt::given(attempt, &known);
+            let answer = write_attempt(alloc, map, &given, secret, hops, payloads, lengths);
             *estimates = LgmEstimates::open(known);
             answer
         }
         None => {
             let nothing = Estimates::new(alloc);
-            let attempt = Attempt::of(payment, edges, limits, silent, &nothing, search);
-            write_attempt(
-                alloc,
-                map,
-                &attempt,
-                &payment.secret,
-                hops,
-                payloads,
-                lengths,
-            )
+            let given = Attempt::given(attempt, &nothing);
+            write_attempt(alloc, map, &given, secret, hops, payloads, lengths)
         }
     }
+}
+
+/// Why there is no route for a payment over what its payer knows beside the map, within its limits: the first reason that
+/// holds, or 0 if there is a route.
+#[unsafe(no_mangle)]
+pub extern "C" fn lgm_no_route_reason(
+    alloc: Global,
+    map: &mut LgmMap,
+    attempt: &LgmAttempt<'_>,
+) -> u32
+    ensures same { map.new.handle.value ≡ map.old.handle.value }
+    ensures reason { Explains (attempt_given attempt.now []) map.old.handle.value result }
+{
+    let nothing = Estimates::new(alloc);
+    let given = Attempt::given(attempt, &nothing);
+    with_state!(alloc, map, |state| state.no_route_reason(alloc, &given))
 }

@@ -5,6 +5,7 @@ ghost use Rattle.lgm_c.specs.Looking.{channel_message_found, node_message_found}
 ghost use Rattle.lgm_c.specs.Status.{if_open, status_of};
 ghost use Rattle.lgm_c.specs.Writing.{Writes, buffer};
 
+use crate::argument_fault::ArgumentFault;
 use crate::fault::{Fault, status};
 use crate::lgm_map::{LgmMap, with_state};
 use crate::output::write_bytes;
@@ -25,7 +26,7 @@ fn write_channel_message(
         (buffer room.old needed.old) (buffer room.new needed.new) }
 {
     if which > 2 {
-        return Err(Fault::Argument);
+        return Err(Fault::Argument(ArgumentFault::Which));
     }
     let Some(stored) = map.channel_info(scid) else {
         return Err(Fault::Refused(Refusal::UnknownChannel));

@@ -10,7 +10,7 @@ ghost use Rattle.lgm_c.specs.Status.{MayRunOut};
 
 use lgm_check::{BanRow, Evidence, Refusal, precheck};
 use lgm_gossip::{ChainHash, Point, Scid};
-use lgm_store::{CheckedMessage, Map, Op, Shared};
+use lgm_store::{CheckedMessage, Hint, Map, Op, Shared};
 use lgm_timeline::Timeline;
 use std::alloc::Global;
 
@@ -79,7 +79,7 @@ fn offered(
     ensures marked { timeline.new.marked ≡ timeline.old.marked }
 {
     let message = CheckedMessage::precheck(alloc, chain, bytes, evidence)?;
-    timeline.offer(alloc, message)
+    timeline.offer(alloc, message, Hint::none())
 }
 
 /// Offers a message, with the verdicts on it. A refusal or out of memory changes nothing, and a message that the map would

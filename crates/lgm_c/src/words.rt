@@ -1,11 +1,13 @@
 //! The words of numbers.
 
 ghost use Rattle.std.specs.Prelude.{◌≡◌};
-ghost use Rattle.lgm_c.specs.Words.{refusal_at, reason_at, word_of_call, word_at, padded};
+ghost use Rattle.lgm_c.specs.Arguments.{argument_word};
+ghost use Rattle.lgm_c.specs.Decoding.{decode_word};
+ghost use Rattle.lgm_c.specs.Words.{refusal_at, reason_at, no_route_at, word_of_call, word_at, padded};
 
 use crate::output::copy_in_front;
 use lgm_check::Refusal;
-use lgm_route::RouteFault;
+use lgm_route::{NoRouteReason, RouteFault};
 
 /// The refusal with a number.
 fn refusal_at(number: u32) -> Option<Refusal>
@@ -46,6 +48,63 @@ fn reason_at(number: u32) -> Option<RouteFault>
     }
 }
 
+/// Why there is no route within limits, by its number.
+fn no_route_at(number: u32) -> Option<NoRouteReason>
+    ensures { result ≡ no_route_at number }
+{
+    match number {
+        41 => Some(NoRouteReason::PayerHasNoChannel),
+        42 => Some(NoRouteReason::PayeeTakesNoPayment),
+        43 => Some(NoRouteReason::PayerLacksAmount),
+        44 => Some(NoRouteReason::PayeeLacksAmount),
+        45 => Some(NoRouteReason::Unconnected),
+        46 => Some(NoRouteReason::BeyondDelay),
+        47 => Some(NoRouteReason::BeyondHops),
+        48 => Some(NoRouteReason::BeyondBoth),
+        _ => None,
+    }
+}
+
+/// The word of a number that stands for a wrong argument: its name, and what it may be.
+fn argument_word(number: u32) -> &'static str
+    ensures { result.now ≡ argument_word number }
+{
+    match number {
+        110 => "sig: 0 to 3",
+        111 => "funding: 0 to 3",
+        112 => "edges: at most 100,000",
+        113 => "limits: at most 300,000",
+        114 => "edge: a maximum of 0",
+        115 => "published: not one",
+        116 => "hops: no route",
+        117 => "record: type < 65,536",
+        118 => "records: not ascending",
+        119 => "payloads: too long",
+        120 => "which: 0, 1 or 2",
+        _ => "",
+    }
+}
+
+/// The word of a number that stands for the first fault of a message, or for a wrong argument.
+fn decode_word(number: u32) -> &'static str
+    ensures { result.now ≡ decode_word number }
+{
+    match number {
+        51 => "long",
+        52 => "short",
+        53 => "cut",
+        54 => "encoding",
+        55 => "ids",
+        56 => "tlv-cut",
+        57 => "tlv-not-minimal",
+        58 => "tlv-too-long",
+        59 => "tlv-order",
+        60 => "tlv-kind",
+        61 => "flags",
+        _ => argument_word(number),
+    }
+}
+
 /// The word of a number that stands for neither a refusal nor a reason.
 fn word_of_call(number: u32) -> &'static str
     ensures { result.now ≡ word_of_call number }
@@ -60,12 +119,11 @@ fn word_of_call(number: u32) -> &'static str
         100 => "closed",
         101 => "open",
         102 => "no-memory",
-        103 => "argument",
         104 => "room",
         105 => "full",
         106 => "published",
         107 => "none",
-        _ => "",
+        _ => decode_word(number),
     }
 }
 
@@ -76,7 +134,10 @@ fn word_at(number: u32) -> &'static str
     if let Some(refusal) = refusal_at(number) {
         return refusal.word();
     }
-    match reason_at(number) {
+    if let Some(reason) = reason_at(number) {
+        return reason.word();
+    }
+    match no_route_at(number) {
         Some(reason) => reason.word(),
         None => word_of_call(number),
     }
@@ -93,10 +154,10 @@ pub extern "C" fn lgm_word(number: u32, word: &mut [u8; 24])
     copy_in_front(bytes, word);
 }
 
-/// The version of this interface, which is 3.
+/// The version of this interface, which is 4.
 #[unsafe(no_mangle)]
 pub extern "C" fn lgm_version() -> u32
-    ensures { result ≡ 3 }
+    ensures { result ≡ 4 }
 {
-    3
+    4
 }

@@ -1,4 +1,4 @@
-use Rattle.std.proofs.Common.{◌≡◌, sym, ap, subst}
+use Rattle.std.proofs.Common.{subst}
 use Rattle.lgm_graph.specs.Edges.{AreKeyed}
 use Rattle.lgm_graph.specs.Overlay.{no_overlay, overlaid_edges}
 use Rattle.lgm_store.specs.Rows.{Rows}
