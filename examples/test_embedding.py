@@ -245,11 +245,18 @@ def test_python():
                 for hop in route.hops)
         return [f"route {route.sent_msat} {route.expiry} {len(route.hops)}", *hops]
 
-    words = {number: ctypes.create_string_buffer(24) for number in range(1, 108)}
+    first_faults = range(51, 62)
+    words = {number: ctypes.create_string_buffer(24) for number in range(1, 200) if number not in first_faults}
     for number, word in words.items():
         lgm.library.load().lgm_word(number, word)
     words = {number: word.value.decode() for number, word in words.items() if word.value}
-    report("Python, words", words == {27: "so-far", **{number: kind.word for number, kind in lgm.faults.FAULTS.items()}})
+    report("Python, words", words == {27: "so-far", **{reason.value: reason.word for reason in lgm.Reason},
+                                      **{number: kind.word for number, kind in lgm.faults.FAULTS.items()}})
+    try:
+        lgm.Map(bytes.fromhex(CHAIN)).offer(b"\1\0")
+        report("Python, a first fault", False)
+    except lgm.Malformed as fault:
+        report("Python, a first fault", str(fault) == "malformed: cut")
     for workload in ("routes", "queries"):
         script = made_script(workload)
         with lgm.Map(bytes.fromhex(CHAIN)) as network:
@@ -565,14 +572,15 @@ def test_one_class():
     message = b"\1\t" + bytes.fromhex(CHAIN) + bytes(4) + b"\xff" * 4
     with lgm.Map(bytes.fromhex(CHAIN)) as network, network.publish() as published, published.publish() as other:
         calls = [(published.offer, b""), (published.close_channel, 0), (published.ban, bytes(33)), (published.mark,)]
-        right = all(raised(*call) is lgm.Published for call in calls) and raised(network.share) is lgm.Argument
+        right = all(raised(*call) is lgm.Published for call in calls) and raised(network.share) is lgm.NotPublished
         right &= bool(network) and bool(published) and len(network) == len(published) == 0
         right &= network.version == published.version == other.version == 0 and published.news(message) == []
         right &= network.news_since(published, message) == []
         right &= raised(network.news_since, network, message) is ValueError
         with published.share() as shared:
             published.close()
-            right &= raised(published.query, message) is lgm.Closed and shared.version == 0
+            right &= raised(published.query, message) is lgm.Closed and raised(lambda: published.version) is lgm.Closed
+            right &= shared.version == 0
     report("Python, one class", right)
 
 
@@ -609,6 +617,16 @@ def test_packages():
     status = subprocess.run([sys.executable, TOP / "tests" / "packages.py"], check=False).returncode
     if status != 77:
         report("packages", status == 0)
+
+
+def test_payer_in_c(out):
+    """The payer in C tries the payments of examples/payments.txt. The first one's second channel fails, and no other connects its
+    ends; the fourth one's carries its amount."""
+    words = ["cc", "-std=c11", "-O2", "-Wall", "-Wextra", "-Werror", "-I", TOP / "include", HERE / "c" / "payer.c", out / "liblgm.a"]
+    subprocess.run([*words, "-o", out / "payer"], check=True)
+    found = output([out / "payer", CHAIN], (HERE / "payments.txt").read_bytes())
+    report("payer.c", found is not None and found.startswith(b"10006500 msat over 3 channels\nunconnected\n")
+           and b"\n10003000 msat over 2 channels\npaid\n" in found)
 
 
 def test_routes(out):
@@ -654,6 +672,7 @@ def main():
         test_dump()
         test_electrum()
         test_routes(out)
+        test_payer_in_c(out)
         test_packages()
     return 0 if failures == 0 else 1
 

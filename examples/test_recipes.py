@@ -79,6 +79,24 @@ def an_invoice_is_paid():
         ([1, 600_003, 7], 10_003_700, 700_021 + 40 + 10), ([1, 600_001, 600_002, 7], 10_007_200, 700_021 + 40 + 20 + 34)]
 
 
+def a_blinded_path_is_paid():
+    """Over that of two paths which makes the payer send less, over the channels of examples/payments.txt."""
+
+    def point(letter):
+        return b"\2" + bytes([letter]) * 32
+
+    paths = [SimpleNamespace(first=point(first), base=base, millionths=0, delta=40, least=0, most=10_000_000)
+             for first, base in ((12, 5_000), (13, 100))]
+    names = {"payer": point(1), "paths": paths, "own": [lgm.Edge(1 << 40, point(1), point(11))], "amount": 1_000_000,
+             "expiry": 700_000, "secret": bytes(32), "Edge": lgm.Edge}
+    with lgm.Map(CHAIN) as names["network"]:
+        for item in items_of((HERE / "payments.txt").read_text()):
+            names["network"].offer(*item)
+        exec(block("docs/operating.md", 'end = b"\\2" + bytes(32)'), names)
+    # The path from D takes 100, C 500 and 300 ppm of 1,000,100, and B 1,000 and 200 ppm of 1,000,900.
+    assert names["path"] is paths[1] and [hop.amount_msat for hop in names["hops"]] == [1_002_100, 1_000_900, 1_000_100]
+
+
 def id_in(message):
     """The id of a channel's announcement or update; 0 of a node's announcement."""
     at = {b"\1\0": 292, b"\1\2": 98}.get(message[:2])
@@ -153,7 +171,7 @@ def old_channels_are_pruned():
 def main():
     """Runs each of them."""
     first_programs(Path(sys.argv[1]))
-    recipes = (an_invoice_is_paid, maps_are_synchronized, old_channels_are_pruned)
+    recipes = (an_invoice_is_paid, a_blinded_path_is_paid, maps_are_synchronized, old_channels_are_pruned)
     for recipe in recipes:
         recipe()
     print(f"{len(recipes) + 1} passed")

@@ -1,7 +1,8 @@
 /*
- * Tests payments over what the payer knows beside the map, and by what it prefers and has learnt, lgm_route_over, in a map
- * that changes and in a published one, also if an allocation fails: each one in turn. The exit status is 0 if all tests pass.
- * Under valgrind it also shows that nothing is freed twice, read or written past its end, or leaked.
+ * Tests payments over what the payer knows beside the map, and by what it prefers and has learnt, lgm_attempt_route, and
+ * why there is no route, in a map that changes and in a published one, also if an allocation fails: each one in turn. The
+ * exit status is 0 if all tests pass. Under valgrind it also shows that nothing is freed twice, read or written past its
+ * end, or leaked.
  *
  * It is linked with -Wl,--wrap=malloc,--wrap=realloc, so that it can make allocations fail.
  */
@@ -53,10 +54,25 @@ static void add_silent(attempt *it, const uint8_t *node) {
     memcpy(it->silent[it->silent_len++].point, node, 33);
 }
 
+static lgm_attempt asked_by(const attempt *it) {
+    return (lgm_attempt){.payment = it->payment, .edges = it->edges, .edges_len = it->edges_len, .limits = it->limits,
+                         .limits_len = it->limits_len, .silent = it->silent, .silent_len = it->silent_len,
+                         .search = it->search};
+}
+
+static uint32_t route_in(lgm_map *map, attempt *it, lgm_hop *hops, size_t hops_len, uint8_t *payloads, size_t payloads_len,
+                         lgm_lengths *lengths) {
+    lgm_attempt asked = asked_by(it);
+    return lgm_attempt_route(map, &asked, &it->estimates, hops, hops_len, payloads, payloads_len, lengths);
+}
+
 static uint32_t route_over(lgm_map *map, attempt *it) {
-    return lgm_route_over(map, &it->payment, it->edges, it->edges_len, it->limits, it->limits_len, it->silent,
-                          it->silent_len, &it->estimates, &it->search, it->hops, LGM_MOST_HOPS, it->payloads,
-                          sizeof it->payloads, &it->lengths);
+    return route_in(map, it, it->hops, LGM_MOST_HOPS, it->payloads, sizeof it->payloads, &it->lengths);
+}
+
+static uint32_t reason(lgm_map *map, const attempt *it) {
+    lgm_attempt asked = asked_by(it);
+    return lgm_no_route_reason(map, &asked);
 }
 
 static void expect_hop(const char *what, const attempt *it, size_t place, uint64_t id, uint64_t amount, uint32_t expiry) {
@@ -241,8 +257,7 @@ static void budgets(lgm_map *map) {
     expect_hint("the best one so far", &it, 7, 1009);
     expect("its payloads", it.lengths.payloads, it.hops[0].payload_len + it.hops[1].payload_len);
     AGAIN("one step, and room for one hop",
-          lgm_route_over(map, &it.payment, it.edges, it.edges_len, NULL, 0, NULL, 0, &it.estimates, &it.search, it.hops, 1,
-                         it.payloads, sizeof it.payloads, &it.lengths), LGM_ROOM);
+          route_in(map, &it, it.hops, 1, it.payloads, sizeof it.payloads, &it.lengths), LGM_ROOM);
     it.search = (lgm_search){.failure_msat = 5, .most_steps = LGM_MOST_STEPS, .most_labels = LGM_MOST_LABELS};
     AGAIN("many steps and labels", route_over(map, &it), LGM_OK);
     expect_hint("the best one", &it, 7, 1009);
@@ -276,6 +291,61 @@ static void learnt(lgm_map *map) {
     expect("the handle", it.estimates.is_open, false);
 }
 
+/* Why there is no route: each reason of one payment, and none that a later one would hide. */
+static void reasons(lgm_map *map) {
+    attempt it;
+    begin(&it, b);
+    AGAIN("a route", reason(map, &it), LGM_OK);
+    memcpy(it.payment.payer, c, 33);
+    AGAIN("no channel", reason(map, &it), LGM_PAYER_HAS_NO_CHANNEL);
+    begin(&it, c);
+    AGAIN("no channel of the payee", reason(map, &it), LGM_PAYEE_TAKES_NO_PAYMENT);
+    add_edge(&it, 6, b, c, 5, 30, 999);
+    add_limit(&it, scid, a, 999);
+    AGAIN("too much for the payer", reason(map, &it), LGM_PAYER_LACKS_AMOUNT);
+    it.limits_len = 0;
+    AGAIN("too much for the payee", reason(map, &it), LGM_PAYEE_LACKS_AMOUNT);
+    it.edges[0].htlc_maximum_msat = 1000;
+    add_limit(&it, scid, a, 1004);
+    AGAIN("too much with the fee", reason(map, &it), LGM_UNCONNECTED);
+    it.limits_len = 0;
+    it.search.most_delay = 29;
+    AGAIN("too slow", reason(map, &it), LGM_BEYOND_DELAY);
+    it.search.most_hops = 1;
+    AGAIN("too slow, and too long", reason(map, &it), LGM_BEYOND_DELAY);
+    it.search.most_delay = 30;
+    AGAIN("too long", reason(map, &it), LGM_BEYOND_HOPS);
+    add_edge(&it, 7, a, c, 0, 0, 1000);
+    AGAIN("a channel of its own", reason(map, &it), LGM_OK);
+    it.edges[0].htlc_maximum_msat = 0;
+    AGAIN("no maximum", reason(map, &it), LGM_ARGUMENT_MAXIMUM);
+    AGAIN("no maximum", route_over(map, &it), LGM_ARGUMENT_MAXIMUM);
+    it.payment.amount_msat = 0;
+    AGAIN("no maximum, and no amount", reason(map, &it), LGM_ARGUMENT_MAXIMUM);
+    it.edges[0].htlc_maximum_msat = 1;
+    AGAIN("no amount", reason(map, &it), LGM_AMOUNT_ZERO);
+}
+
+/* Over C or over D, which is slow but takes fewer hops: nothing is within both limits. */
+static void beyond_both(lgm_map *map) {
+    static uint8_t e[33] = {2, 14};
+    attempt it;
+    begin(&it, e);
+    it.search = (lgm_search){.most_delay = 50, .most_hops = 2};
+    add_edge(&it, 6, b, e, 0, 60, 1000);
+    add_edge(&it, 7, b, c, 0, 10, 1000);
+    add_edge(&it, 8, c, e, 0, 10, 1000);
+    AGAIN("beyond both", reason(map, &it), LGM_BEYOND_BOTH);
+    it.search.most_hops = 3;
+    AGAIN("one more hop", reason(map, &it), LGM_OK);
+    it.search = (lgm_search){.most_delay = 60, .most_hops = 2};
+    AGAIN("ten more blocks", reason(map, &it), LGM_OK);
+    it.search = (lgm_search){.most_delay = 60, .most_hops = 2, .most_labels = 1};
+    AGAIN("one label", reason(map, &it), LGM_OK);
+    it.search = (lgm_search){.most_delay = 50, .most_hops = 3, .most_labels = 1};
+    AGAIN("one label within a delay", reason(map, &it), LGM_UNDECIDED);
+}
+
 /* Nothing is written where a buffer is too short, nor past the route. */
 static void short_buffers(lgm_map *map) {
     for (size_t room = 0; room <= 2; room++) {
@@ -289,13 +359,11 @@ static void short_buffers(lgm_map *map) {
         memset(it.payloads, 5, sizeof it.payloads);
         before = it;
         AGAIN("some room for hops",
-              lgm_route_over(map, &it.payment, it.edges, 1, NULL, 0, NULL, 0, &it.estimates, &it.search, it.hops, room,
-                             it.payloads, bytes, &it.lengths), room < 2 ? LGM_ROOM : LGM_OK);
+              route_in(map, &it, it.hops, room, it.payloads, bytes, &it.lengths), room < 2 ? LGM_ROOM : LGM_OK);
         expect("the other hops", memcmp(it.hops + 2, before.hops + 2, sizeof it.hops - 2 * sizeof *it.hops), 0);
         expect("the other payloads", memcmp(it.payloads + bytes, before.payloads + bytes, sizeof it.payloads - bytes), 0);
         AGAIN("too little room for payloads",
-              lgm_route_over(map, &it.payment, it.edges, 1, NULL, 0, NULL, 0, &it.estimates, &it.search, before.hops, 2,
-                             before.payloads, bytes - 1, &before.lengths), LGM_ROOM);
+              route_in(map, &it, before.hops, 2, before.payloads, bytes - 1, &before.lengths), LGM_ROOM);
         expect("the lengths", before.lengths.hops == 2 && before.lengths.payloads == bytes, true);
         expect("the room", before.hops[0].scid == 0x0505050505050505 && before.payloads[0] == 5, true);
     }
@@ -335,7 +403,8 @@ static void refused_without_memory(lgm_map *map) {
 /* Each of these, while an allocation fails: each one in turn. */
 static void known_beside(lgm_map *map) {
     static void (*const tests[])(lgm_map *) = {nothing, limits, silent_nodes, own_channels, hints, long_delays, preferences,
-                                               few_hops, budgets, learnt, short_buffers, refused_without_memory};
+                                               few_hops, budgets, learnt, reasons, beyond_both, short_buffers,
+                                               refused_without_memory};
     for (size_t i = 0; i < sizeof tests / sizeof *tests; i++) {
         long requests = 0;
         do {
@@ -383,22 +452,27 @@ static void most_edges(void) {
         memcpy(edges[i].to, c, 33);
     }
     memcpy(edges[LGM_MOST_EDGES - 1].from, a, 33);
-    for (size_t len = LGM_MOST_EDGES - 1; len <= LGM_MOST_EDGES + 1; len++)
+    lgm_attempt asked = asked_by(&it);
+    asked.edges = edges;
+    for (asked.edges_len = LGM_MOST_EDGES - 1; asked.edges_len <= LGM_MOST_EDGES + 1; asked.edges_len++)
         expect("many edges",
-               lgm_route_over(&map, &it.payment, edges, len, NULL, 0, NULL, 0, &it.estimates, &it.search, it.hops,
-                              LGM_MOST_HOPS, it.payloads, sizeof it.payloads, &it.lengths),
-               len < LGM_MOST_EDGES ? LGM_NO_ROUTE : len > LGM_MOST_EDGES ? LGM_ARGUMENT : LGM_OK);
+               lgm_attempt_route(&map, &asked, &it.estimates, it.hops, LGM_MOST_HOPS, it.payloads, sizeof it.payloads,
+                                 &it.lengths),
+               asked.edges_len < LGM_MOST_EDGES ? LGM_NO_ROUTE
+                                                : asked.edges_len > LGM_MOST_EDGES ? LGM_ARGUMENT_EDGES : LGM_OK);
     expect_hop("the last edge", &it, 0, LGM_MOST_EDGES - 1, 1000, 700000);
-    it.payment.amount_msat = 0;
+    asked.edges_len = LGM_MOST_EDGES + 1;
+    asked.payment.amount_msat = 0;
     none_left = true;
     expect("too many, and no amount",
-           lgm_route_over(&map, &it.payment, edges, LGM_MOST_EDGES + 1, NULL, 0, NULL, 0, &it.estimates, &it.search,
-                          it.hops, LGM_MOST_HOPS, it.payloads, sizeof it.payloads, &it.lengths), LGM_ARGUMENT);
+           lgm_attempt_route(&map, &asked, &it.estimates, it.hops, LGM_MOST_HOPS, it.payloads, sizeof it.payloads,
+                             &it.lengths), LGM_ARGUMENT_EDGES);
+    expect("too many, and no reason", lgm_no_route_reason(&map, &asked), LGM_ARGUMENT_EDGES);
     none_left = false;
     lgm_free(&map);
     expect("too many, of a closed handle",
-           lgm_route_over(&map, &it.payment, edges, LGM_MOST_EDGES + 1, NULL, 0, NULL, 0, &it.estimates, &it.search,
-                          it.hops, LGM_MOST_HOPS, it.payloads, sizeof it.payloads, &it.lengths), LGM_CLOSED);
+           lgm_attempt_route(&map, &asked, &it.estimates, it.hops, LGM_MOST_HOPS, it.payloads, sizeof it.payloads,
+                             &it.lengths), LGM_CLOSED);
     free(edges);
 }
 

@@ -15,7 +15,7 @@ static void closed_handles(void) {
     uint8_t message[QUERY], room[8] = {5, 5, 5, 5, 5, 5, 5, 5};
     size_t needed = 77;
     lgm_payment payment = {0};
-    lgm_search search = {0};
+    lgm_attempt attempt = {.payment = payment};
     lgm_hop hops[1];
     lgm_lengths lengths = {77, 77};
     lgm_channel_info channel = {.capacity_sat = 77};
@@ -30,9 +30,8 @@ static void closed_handles(void) {
     expect("a closed handle's wants", lgm_wanted(&map, message, QUERY, point), LGM_CLOSED);
     expect("a closed handle's close", lgm_close_channel(&map, scid), LGM_CLOSED);
     expect("a closed handle's route", lgm_route(&map, &payment, hops, 1, room, 8, &lengths), LGM_CLOSED);
-    expect("a closed handle's route over nothing",
-           lgm_route_over(&map, &payment, NULL, 0, NULL, 0, NULL, 0, &nothing, &search, hops, 1, room, 8, &lengths),
-           LGM_CLOSED);
+    expect("a closed handle's attempt", lgm_attempt_route(&map, &attempt, &nothing, hops, 1, room, 8, &lengths), LGM_CLOSED);
+    expect("a closed handle's reason", lgm_no_route_reason(&map, &attempt), LGM_CLOSED);
     expect("a closed handle's query", lgm_query(&map, message, QUERY, room, 8, &needed), LGM_CLOSED);
     expect("a closed handle's filter", lgm_filter(&map, message, QUERY, room, 8, &needed), LGM_CLOSED);
     expect("a closed handle's news", lgm_news(&map, message, QUERY, room, 8, &needed), LGM_CLOSED);
@@ -80,8 +79,9 @@ static void offering(lgm_map *map) {
     update(terms, 5);
     node(one);
     expect("a verdict that is none", lgm_offer(map, channel, ANNOUNCEMENT, 4, a, LGM_FUNDING_UNSPENT, 100000),
-           LGM_ARGUMENT);
-    expect("another one", lgm_offer(map, channel, ANNOUNCEMENT, LGM_SIG_ALL_FOUR, a, 4, 100000), LGM_ARGUMENT);
+           LGM_ARGUMENT_SIG);
+    expect("another one", lgm_offer(map, channel, ANNOUNCEMENT, LGM_SIG_ALL_FOUR, a, 4, 100000), LGM_ARGUMENT_FUNDING);
+    expect("both", lgm_offer(map, channel, ANNOUNCEMENT, 4, a, 4, 100000), LGM_ARGUMENT_SIG);
     expect("no bytes", lgm_offer(map, &nothing, 0, LGM_SIG_ALL_FOUR, a, LGM_FUNDING_UNSPENT, 100000), LGM_MALFORMED);
     expect("signatures", lgm_offer(map, channel, ANNOUNCEMENT, LGM_SIG_NOT_ALL_FOUR, a, LGM_FUNDING_UNSPENT, 100000),
            LGM_SIGNATURE);
@@ -185,7 +185,7 @@ static void stored_messages(lgm_map *map) {
     expect_message(map, 1, terms, UPDATE);
     expect_message(map, 3, one, NODE);
     expect("no update", lgm_channel_message(map, scid, 2, room, sizeof room, &needed), LGM_NONE);
-    expect("no message", lgm_channel_message(map, scid, 3, room, sizeof room, &needed), LGM_ARGUMENT);
+    expect("no message", lgm_channel_message(map, scid, 3, room, sizeof room, &needed), LGM_ARGUMENT_WHICH);
     expect("no channel", lgm_channel_message(map, scid + 1, 0, room, sizeof room, &needed), LGM_UNKNOWN_CHANNEL);
     expect("no channel", lgm_channel_message(map, scid + 1, 2, room, sizeof room, &needed), LGM_UNKNOWN_CHANNEL);
     expect("no node", lgm_node_message(map, b, room, sizeof room, &needed), LGM_NOT_ANNOUNCED);
@@ -311,7 +311,6 @@ static void null_with_no_items(lgm_map *map) {
     lgm_map other = {0};
     lgm_estimates nothing = {0};
     lgm_payment payment = {.amount_msat = 1000, .expiry = 700000};
-    lgm_search search = {0};
     lgm_lengths lengths = {0, 0};
     lgm_node_info info;
     uint8_t range[QUERY], filter[FILTER];
@@ -335,8 +334,10 @@ static void null_with_no_items(lgm_map *map) {
     expect("null for a route", lgm_route(map, &payment, NULL, 0, NULL, 0, &lengths), LGM_ROOM);
     expect("its hops", lengths.hops, 1);
     expect("null for lists",
-           lgm_route_over(map, &payment, NULL, 0, NULL, 0, NULL, 0, &nothing, &search, NULL, 0, NULL, 0, &lengths), LGM_ROOM);
+           lgm_attempt_route(map, &(lgm_attempt){.payment = payment}, &nothing, NULL, 0, NULL, 0, &lengths), LGM_ROOM);
     expect("its hops", lengths.hops, 1);
+    expect("null for lists, and a reason", lgm_no_route_reason(map, &(lgm_attempt){.payment = payment}), LGM_OK);
+    expect("null for a message", lgm_fault_of(NULL, 0), LGM_FAULT_SHORT);
     expect("null for addresses", lgm_node(map, a, &info, NULL, 0, &needed), LGM_ROOM);
     expect("their length", needed, 2);
 }
@@ -348,7 +349,8 @@ static void words(void) {
     } some[] = {{LGM_OK, "accepted"}, {LGM_MALFORMED, "malformed"}, {LGM_BANNED, "banned"},
                 {LGM_AMOUNT_TOO_LARGE, "amount-too-large"}, {LGM_NO_ROUTE, "no-route"}, {LGM_UNDECIDED, "undecided"},
                 {LGM_SO_FAR, "so-far"}, {LGM_NOT_QUERY, "not-query"},
-                {LGM_ROOM, "room"}, {17, ""}, {UINT32_MAX, ""}};
+                {LGM_BEYOND_BOTH, "beyond-both"}, {LGM_FAULT_CUT, "cut"}, {LGM_ARGUMENT_LIMITS, "limits: at most 300,000"},
+                {LGM_ROOM, "room"}, {17, ""}, {103, ""}, {UINT32_MAX, ""}};
     for (size_t i = 0; i < sizeof some / sizeof *some; i++) {
         uint8_t word[LGM_WORD_LEN];
         memset(word, 5, sizeof word);
@@ -356,6 +358,26 @@ static void words(void) {
         expect(some[i].word, strcmp((const char *)word, some[i].word), 0);
         expect(some[i].word, word[LGM_WORD_LEN - 1], 0);
     }
+    for (uint32_t number = 0; number < 1000; number++) {
+        uint8_t word[LGM_WORD_LEN];
+        lgm_word(number, word);
+        expect("a text", strcmp((const char *)word, lgm_text(number)), 0);
+    }
+}
+
+/* The first fault of a message, which takes no memory but of a query with lists. */
+static void first_faults(void) {
+    static const uint8_t unknown[2] = {1, 3}, even[2] = {1, 4}, ids[37] = {1, 5, [35] = 1, [36] = 1};
+    uint8_t channel[ANNOUNCEMENT];
+    announcement(channel);
+    none_left = true;
+    expect("no fault", lgm_fault_of(channel, ANNOUNCEMENT), LGM_OK);
+    expect("a byte less", lgm_fault_of(channel, ANNOUNCEMENT - 1), LGM_FAULT_CUT);
+    expect("one byte", lgm_fault_of(channel, 1), LGM_FAULT_SHORT);
+    expect("an odd type", lgm_fault_of(unknown, 2), LGM_IGNORED);
+    expect("an even type", lgm_fault_of(even, 2), LGM_UNKNOWN_EVEN);
+    none_left = false;
+    AGAIN("an encoding", lgm_fault_of(ids, 37), LGM_FAULT_ENCODING);
 }
 
 /* What is refused even if there is no memory at all. */
@@ -411,15 +433,15 @@ static void payloads(void) {
     lgm_lengths lengths = {77, 77};
     uint8_t room[LGM_MOST_PAYLOADS] = {5};
     none_left = true;
-    expect("no hops", lgm_payloads(&arrival, NULL, 0, room, sizeof room, &lengths), LGM_ARGUMENT);
-    expect("hops that don't follow", lgm_payloads(&arrival, two, 2, room, sizeof room, &lengths), LGM_ARGUMENT);
+    expect("no hops", lgm_payloads(&arrival, NULL, 0, room, sizeof room, &lengths), LGM_ARGUMENT_HOPS);
+    expect("hops that don't follow", lgm_payloads(&arrival, two, 2, room, sizeof room, &lengths), LGM_ARGUMENT_HOPS);
     expect("no memory", lgm_payloads(&arrival, &hop, 1, room, sizeof room, &lengths), LGM_NO_MEMORY);
     none_left = false;
     other.records = descending;
-    expect("types that descend", lgm_payloads(&other, &hop, 1, room, sizeof room, &lengths), LGM_ARGUMENT);
+    expect("types that descend", lgm_payloads(&other, &hop, 1, room, sizeof room, &lengths), LGM_ARGUMENT_RECORD_ORDER);
     other.records = reserved;
     other.records_len = 1;
-    expect("a type that isn't custom", lgm_payloads(&other, &hop, 1, room, sizeof room, &lengths), LGM_ARGUMENT);
+    expect("a type that isn't custom", lgm_payloads(&other, &hop, 1, room, sizeof room, &lengths), LGM_ARGUMENT_RECORD_TYPE);
     expect("the lengths", lengths.hops + lengths.payloads, 2 * 77);
     expect("the hop", hop.payload_len, 77);
     expect("the room", room[0], 5);
@@ -484,6 +506,7 @@ int main(void) {
     expect("some memory", requests > 20, true);
     closed_handles();
     words();
+    first_faults();
     payloads();
     opening(&map);
     offering(&map);

@@ -84,7 +84,11 @@ static void expect_open(lgm_map *map, lgm_map *published, lgm_map *other) {
     expect("an open handle", lgm_publish(map, published), LGM_OPEN);
     expect("an open handle", lgm_publish(published, other), LGM_OPEN);
     expect("an open handle", lgm_share(published, other), LGM_OPEN);
-    expect("a map that changes", lgm_share(map, published), LGM_ARGUMENT);
+    expect("the map's own handle", lgm_publish(map, map), LGM_OPEN);
+    expect("a published one's own handle", lgm_publish(published, published), LGM_OPEN);
+    expect("the same of a share", lgm_share(published, published), LGM_OPEN);
+    expect("a map that changes", lgm_share(map, published), LGM_ARGUMENT_PUBLISHED);
+    expect("its own handle", lgm_share(map, map), LGM_ARGUMENT_PUBLISHED);
     none_left = false;
 }
 

@@ -48,13 +48,11 @@ static void print_bytes(const session *s, const char *what, const uint8_t *bytes
 
 /* Prints the word of a number. Out of memory ends the program. */
 static void print_word(const session *s, uint32_t number) {
-    uint8_t word[LGM_WORD_LEN];
-    lgm_word(number, word);
     if (number >= LGM_CLOSED) {
-        fprintf(stderr, "run: line %" PRIu64 ": %s\n", s->line, (const char *)word);
+        fprintf(stderr, "run: line %" PRIu64 ": %s\n", s->line, lgm_text(number));
         exit(1);
     }
-    print_line(s, "%s", (const char *)word);
+    print_line(s, "%s", lgm_text(number));
 }
 
 /* A call of the library that writes messages: lgm_query, lgm_filter or lgm_news. */

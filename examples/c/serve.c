@@ -39,10 +39,8 @@ static size_t batch, pause_ms, times, tries = 1;
 static bool is_quiet;
 
 static void expect(uint32_t number) {
-    uint8_t word[LGM_WORD_LEN];
     if (number == LGM_OK) return;
-    lgm_word(number, word);
-    fprintf(stderr, "serve: %s\n", (const char *)word);
+    fprintf(stderr, "serve: %s\n", lgm_text(number));
     exit(1);
 }
 
@@ -174,17 +172,16 @@ static void print_answer(uint64_t version, const attempt *it) {
     if (it->number == LGM_OK) {
         describe_route(text + at, it);
     } else {
-        uint8_t word[LGM_WORD_LEN];
-        lgm_word(it->number, word);
-        sprintf(text + at, "%s", (const char *)word);
+        sprintf(text + at, "%s", lgm_text(it->number));
     }
     puts(text);
 }
 
 static void route(lgm_map *published, uint64_t version, attempt *it) {
     lgm_estimates nothing = {0};
-    it->number = lgm_route_over(published, &payments[it->payment], NULL, 0, it->limits, it->limits_len, NULL, 0, &nothing,
-                                &(lgm_search){0}, it->hops, LGM_MOST_HOPS, it->payloads, sizeof it->payloads, &it->lengths);
+    lgm_attempt asked = {.payment = payments[it->payment], .limits = it->limits, .limits_len = it->limits_len};
+    it->number = lgm_attempt_route(published, &asked, &nothing, it->hops, LGM_MOST_HOPS, it->payloads, sizeof it->payloads,
+                                   &it->lengths);
     if (it->number >= LGM_CLOSED) expect(it->number);
     if (!is_quiet) print_answer(version, it);
 }

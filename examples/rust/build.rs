@@ -5,7 +5,7 @@ use std::path::Path;
 use std::process::Command;
 
 /// The version of the library, which the declarations of this crate are of.
-const VERSION: &str = "lgm = 3";
+const VERSION: &str = "lgm = 4";
 
 fn main() {
     println!("cargo::rerun-if-env-changed=LGM_LIBRARY_DIR");

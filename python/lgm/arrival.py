@@ -8,6 +8,7 @@ from typing import Any, List, Mapping, Optional, Tuple
 from . import library
 from .faults import check
 from .library import Buffer, Octets, number, octets
+from .packing import lent
 from .records import Hop, Route
 
 # The least type of a custom record.
@@ -44,8 +45,7 @@ def _packed_hop(hop: Hop) -> bytes:
 
 def _lent(value: bytes, held: List[Any]) -> Tuple[int, int]:
     """The address of bytes, which last as long as what is held, and their number."""
-    held.append(ctypes.create_string_buffer(value, max(len(value), 1)))
-    return ctypes.addressof(held[-1]), len(value)
+    return lent(value, held), len(value)
 
 
 def _packed_records(records: Mapping[int, Octets], held: List[Any]) -> Tuple[int, int]:

@@ -2,11 +2,14 @@
 
 from __future__ import annotations
 
+from enum import IntEnum
 from typing import ClassVar, Dict, Optional, Type
+
+from . import library
 
 
 class Fault(Exception):
-    """A call failed, and left the map unchanged. It has a `number` and a `word`."""
+    """A call failed, and left the map unchanged. It has a `number` and a `word`; its text may say more than the word."""
 
     number: ClassVar[int]
     word: ClassVar[str]
@@ -16,8 +19,8 @@ class Fault(Exception):
             cls.number, cls.word = number, word
             FAULTS[number] = cls
 
-    def __init__(self) -> None:
-        super().__init__(self.word)
+    def __init__(self, more: str = "") -> None:
+        super().__init__(f"{self.word}: {more}" if more else self.word)
 
 
 # The class of each number.
@@ -30,12 +33,37 @@ def check(number: int) -> None:
         raise FAULTS[number]()
 
 
+def check_message(number: int, message: bytes) -> None:
+    """The same of a call on a message: of a malformed one the text has its first fault."""
+    if number == Malformed.number:
+        raise Malformed(library.text_of(library.load().lgm_fault_of(message, len(message))))
+    check(number)
+
+
+class Reason(IntEnum):
+    """Why a payment has no route: the first of these that holds."""
+
+    PAYER_HAS_NO_CHANNEL = 41
+    PAYEE_TAKES_NO_PAYMENT = 42
+    PAYER_LACKS_AMOUNT = 43
+    PAYEE_LACKS_AMOUNT = 44
+    UNCONNECTED = 45
+    BEYOND_DELAY = 46
+    BEYOND_HOPS = 47
+    BEYOND_BOTH = 48
+
+    @property
+    def word(self) -> str:
+        """Its word, as "payee-lacks-amount"."""
+        return self.name.lower().replace("_", "-")
+
+
 class Refused(Fault):
     """A message or a close is refused, or a peer's message is malformed."""
 
 
 class Malformed(Refused, number=1, word="malformed"):
-    """It is no well-formed message."""
+    """It is no well-formed message. The text has the word of its first fault, as "malformed: cut"."""
 
 
 class UnknownEven(Refused, number=2, word="unknown-even"):
@@ -119,11 +147,15 @@ class SelfPayment(Unrouted, number=24, word="self-payment"):
 
 
 class NoRoute(Unrouted, number=25, word="no-route"):
-    """There is no usable walk of 1 to 20 channels, within the limits."""
+    """There is no usable walk of 1 to 20 channels, within the limits. The `reason` says why, if it is known."""
+
+    def __init__(self, reason: Optional[Reason] = None) -> None:
+        super().__init__(reason.word if reason else "")
+        self.reason = reason
 
 
 class Undecided(Fault, number=26, word="undecided"):
-    """Labels or steps ran out, and no route was found so far: it says nothing about the payment."""
+    """Labels or steps ran out before a route was found: it says nothing about the payment."""
 
 
 class NotQuery(Fault, number=31, word="not-query"):
@@ -150,10 +182,6 @@ class NoMemory(Fault, number=102, word="no-memory"):
     """Out of memory. The same call may be made again."""
 
 
-class Argument(Fault, number=103, word="argument"):
-    """A number that stands for no message; too many edges; a map that changes, where a published one is wanted."""
-
-
 class Room(Fault, number=104, word="room"):
     """A buffer is too short."""
 
@@ -168,3 +196,51 @@ class Published(Fault, number=106, word="published"):
 
 class Nothing(Fault, number=107, word="none"):
     """There is no such update."""
+
+
+class Argument(Fault):
+    """An argument is wrong: the word names it, and says what it may be."""
+
+
+class WrongSig(Argument, number=110, word="sig: 0 to 3"):
+    """The number of the verdict on signatures stands for none."""
+
+
+class WrongFunding(Argument, number=111, word="funding: 0 to 3"):
+    """The number of the verdict on a funding output stands for none."""
+
+
+class TooManyEdges(Argument, number=112, word="edges: at most 100,000"):
+    """There are too many edges."""
+
+
+class TooManyLimits(Argument, number=113, word="limits: at most 300,000"):
+    """There are too many limits."""
+
+
+class NoMaximum(Argument, number=114, word="edge: a maximum of 0"):
+    """The maximum of an edge is 0, so it would carry nothing."""
+
+
+class NotPublished(Argument, number=115, word="published: not one"):
+    """The map changes, where a published one is wanted."""
+
+
+class WrongHops(Argument, number=116, word="hops: no route"):
+    """The hops aren't 1 to 20 that follow one another."""
+
+
+class WrongRecordType(Argument, number=117, word="record: type < 65,536"):
+    """A record's type isn't one of a custom record."""
+
+
+class WrongRecordOrder(Argument, number=118, word="records: not ascending"):
+    """The records aren't by ascending types."""
+
+
+class PayloadsTooLong(Argument, number=119, word="payloads: too long"):
+    """The payloads don't fit an onion packet."""
+
+
+class WrongMessage(Argument, number=120, word="which: 0, 1 or 2"):
+    """The number stands for no message of a channel."""

@@ -8,22 +8,25 @@ from types import TracebackType
 from typing import Any, Callable, ClassVar, Optional, Type, TypeVar, cast
 
 from . import library
+from .faults import Closed
 
 Method = TypeVar("Method", bound=Callable[..., Any])
 Kind = TypeVar("Kind", bound="Handle")
 
 
 def alone(method: Method) -> Method:
-    """A method during which no other one of the object runs, since all of them use its handle and its buffers."""
+    """A method during which no other one of the object runs, since all of them use its handle and its buffers. If it is closed,
+    it raises `Closed`."""
     @wraps(method)
     def locked(self: Handle, *arguments: Any, **named: Any) -> Any:
         with self._lock:
+            self._check_open()
             return method(self, *arguments, **named)
     return cast(Method, locked)
 
 
 class Handle:
-    """A handle of a map or of estimates."""
+    """A handle of a map or of estimates. It isn't copied, nor pickled."""
 
     _free: ClassVar[str]  # the name of the call that frees it
 
@@ -32,12 +35,23 @@ class Handle:
         self._lock = threading.Lock()
         self._handle = library.Buffer(library.SIZE_OF_HANDLE)
         self._at = self._handle.at
+        self._is_closed = False
         self._library = library.load()
 
-    @alone
+    def _check_open(self) -> None:
+        """Raises `Closed` if it is closed."""
+        if self._is_closed:
+            raise Closed()
+
     def close(self) -> None:
-        """Frees what it has. Later calls raise `Closed`."""
-        getattr(self._library, self._free)(self._at)
+        """Frees what it has. Later calls raise `Closed`, but this one."""
+        with self._lock:
+            self._is_closed = True
+            getattr(self._library, self._free)(self._at)
+
+    def __reduce_ex__(self, protocol: Any) -> Any:
+        """Two objects with one handle would free it twice."""
+        raise TypeError(f"a {type(self).__name__} can't be copied or pickled")
 
     def __enter__(self: Kind) -> Kind:
         return self

@@ -9,7 +9,7 @@ from functools import lru_cache
 from pathlib import Path
 from typing import Any, Dict, List, Optional, Tuple, Union
 
-VERSION = 3
+VERSION = 4
 NAME = f"liblgm.so.{VERSION}"
 HERE = Path(__file__).resolve().parent
 # Where the shared object may be: beside this file, in a package that has it; or where `examples/build-c` puts it in a clone.
@@ -24,9 +24,12 @@ def place() -> str:
 
 LIBRARY: Union[str, Path] = place()
 
+OK = 0
 SO_FAR = 27
+FIRST_REASON, LAST_REASON = 41, 48
 ROOM = 104
 NONE = 107
+WORD_LEN = 24
 MOST_HOPS = 20
 MOST_PAYLOADS = 1300
 
@@ -40,6 +43,7 @@ RECORD = struct.Struct("@QPN")
 ARRIVAL = struct.Struct("@QPNPN32s0Q")
 ESTIMATE = struct.Struct("@QQQ")
 SEARCH = struct.Struct("@QNIIHB0Q")
+LISTS = struct.Struct("@PNPNPN")  # of an attempt, between the payment and the search
 DIRECTION = struct.Struct("@?BBHIIIQQ")
 CHANNEL = struct.Struct("@Q33s33s0Q")
 CHANNEL_LEN = CHANNEL.size + 2 * DIRECTION.size
@@ -60,12 +64,14 @@ CALLS: Dict[str, Tuple[Any, List[Any]]] = {
     "lgm_free": (None, [AT]),
     "lgm_offer": (U32, [AT, BYTES, SIZE, U32, BYTES, U32, U64]),
     "lgm_wanted": (U32, [AT, BYTES, SIZE, AT]),
+    "lgm_fault_of": (U32, [BYTES, SIZE]),
     "lgm_close_channel": (U32, [AT, U64]),
     "lgm_ban": (U32, [AT, BYTES]),
     "lgm_count": (SIZE, [AT]),
     "lgm_route": (U32, [AT, BYTES, AT, SIZE, AT, SIZE, AT]),
     "lgm_payloads": (U32, [BYTES, AT, SIZE, AT, SIZE, AT]),
-    "lgm_route_over": (U32, [AT, BYTES, BYTES, SIZE, BYTES, SIZE, BYTES, SIZE, AT, BYTES, AT, SIZE, AT, SIZE, AT]),
+    "lgm_attempt_route": (U32, [AT, BYTES, AT, AT, SIZE, AT, SIZE, AT]),
+    "lgm_no_route_reason": (U32, [AT, BYTES]),
     "lgm_estimates_open": (U32, [AT]),
     "lgm_estimates_free": (None, [AT]),
     "lgm_estimate": (U32, [AT, U64, BYTES, AT]),
@@ -106,6 +112,13 @@ def load() -> ctypes.CDLL:
     if library.lgm_version() != VERSION:
         raise ImportError(f"{LIBRARY} has another version than {VERSION}")
     return library
+
+
+def text_of(number: int) -> str:
+    """The word of a number that a call returned."""
+    word = ctypes.create_string_buffer(WORD_LEN)
+    load().lgm_word(number, ctypes.addressof(word))
+    return word.value.decode()
 
 
 def number(name: str, value: int, below: int, least: int = 0) -> int:

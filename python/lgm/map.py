@@ -10,10 +10,11 @@ from typing import Any, Callable, ContextManager, Iterable, Iterator, List, Opti
 
 from . import library
 from .estimates import Estimates
-from .faults import check
+from .faults import NoRoute, Reason, check, check_message
 from .handle import Handle, alone
 from .library import Buffer, Octets, number, octets
-from .packing import (NOBODY, NOT_ASKED, direction, funded, packed_all, packed_edge, packed_limit, packed_search, signed)
+from .packing import (NOBODY, NOT_ASKED, direction, funded, lent, packed_all, packed_edge, packed_limit, packed_search,
+                      signed)
 from .records import Channel, Edge, Hop, Limit, Node, Preferences, Route
 
 # The messages of a channel, for `Map.message`: its announcement, and the updates of node 1 and node 2.
@@ -50,6 +51,7 @@ class Map(Handle):
         self._struct = Buffer(max(library.LENGTHS.size, library.CHANNEL_LEN, library.NODE.size))
         self._nothing_known = Buffer(library.SIZE_OF_HANDLE)  # a closed handle of estimates
         self._offer = self._library.lgm_offer
+        self._version = 0
 
     @classmethod
     def _closed(cls) -> Map:
@@ -70,7 +72,9 @@ class Map(Handle):
         number_of_funding, sat = funded(funding)
         with self._lock:
             outcome = self._offer(self._at, message, len(message), number_of_sig, signer, number_of_funding, sat)
-        check(outcome)
+            if outcome == library.OK:
+                self._version += 1
+        check_message(outcome, message)
 
     @alone
     def wanted(self, message: Octets) -> Optional[bytes]:
@@ -78,7 +82,7 @@ class Map(Handle):
         be accepted with the right verdicts. Else raises the refusal that it has even with these."""
         message = octets("a message", message)
         self._struct.bytes[0] = b"\0"  # as no key begins
-        check(self._library.lgm_wanted(self._at, message, len(message), self._struct.at))
+        check_message(self._library.lgm_wanted(self._at, message, len(message), self._struct.at), message)
         key = self._struct.front(33)
         return key if key[0] else None
 
@@ -86,11 +90,13 @@ class Map(Handle):
     def close_channel(self, scid: int) -> None:
         """Removes a channel, because its funding output was spent."""
         check(self._library.lgm_close_channel(self._at, number("an id", scid, 2**64)))
+        self._version += 1
 
     @alone
     def ban(self, point: Octets) -> None:
         """Bans a node, and removes its channels, as contradicting announcements ban theirs."""
         check(self._library.lgm_ban(self._at, octets("a point", point, 33)))
+        self._version += 1
 
     def route(self, payer: Octets, payee: Octets, amount_msat: int, expiry: int, secret: Octets, edges: Iterable[Edge] = (),
               limits: Iterable[Limit] = (), silent: Iterable[Octets] = (), preferences: Optional[Preferences] = None,
@@ -103,31 +109,44 @@ class Map(Handle):
 
         A search ends once it has made `most_labels` labels or taken `most_steps` steps, each by default a limit of the library.
         Then the route may not be the best one (`is_best`). Without one so far this raises `Undecided`: that says nothing about
-        the payment. While it runs, other calls of the estimates wait; closed ones know nothing."""
+        the payment. While it runs, other calls of the estimates wait; closed ones know nothing.
+
+        Without a route it raises `NoRoute`, whose `reason` a further search finds: None if that ran out of labels, steps or
+        memory."""
         payment = library.PAYMENT.pack(
             number("amount_msat", amount_msat, 2**64), number("expiry", expiry, 2**32),
             octets("a point", payer, 33), octets("a point", payee, 33), octets("a secret", secret, 32))
         points = [octets("a silent node", point, 33) for point in silent]
         if not (estimates is None or isinstance(estimates, Estimates)):
             raise TypeError(f"estimates are of the class Estimates, and not {type(estimates).__name__}")
-        overlay = (*packed_all("edges", Edge, edges, packed_edge), *packed_all("limits", Limit, limits, packed_limit),
-                   b"".join(points), len(points))
+        held: List[Any] = []
+        lists = []
+        for packed, count in (packed_all("edges", Edge, edges, packed_edge), packed_all("limits", Limit, limits, packed_limit),
+                              (b"".join(points), len(points))):
+            lists += [lent(packed, held), count]
         search = packed_search(preferences, most_delay, most_hops, most_labels, most_steps)
-        return self._route((payment, *overlay), estimates, search)
+        return self._route(payment + library.LISTS.pack(*lists) + search, estimates)
 
     @alone
-    def _route(self, asked: Tuple[Any, ...], estimates: Optional[Estimates], search: bytes) -> Route:
+    def _route(self, attempt: bytes, estimates: Optional[Estimates]) -> Route:
         """The route that a call writes. Whoever takes the locks of a map and of estimates takes the map's first."""
         lock: ContextManager[Any] = nullcontext()
         known = self._nothing_known.at
         if estimates is not None:
             lock, known = estimates._lock, estimates._at
         with lock:
-            outcome = self._library.lgm_route_over(self._at, *asked, known, search, self._hops.at, library.MOST_HOPS,
-                                                   self._payloads.at, library.MOST_PAYLOADS, self._struct.at)
+            outcome = self._library.lgm_attempt_route(self._at, attempt, known, self._hops.at, library.MOST_HOPS,
+                                                      self._payloads.at, library.MOST_PAYLOADS, self._struct.at)
+        if outcome == NoRoute.number:
+            raise NoRoute(self._reason(attempt))
         if outcome != library.SO_FAR:
             check(outcome)
         return self._written_route(is_best=outcome != library.SO_FAR)
+
+    def _reason(self, attempt: bytes) -> Optional[Reason]:
+        """Why there is no route, if that is found."""
+        outcome = self._library.lgm_no_route_reason(self._at, attempt)
+        return Reason(outcome) if library.FIRST_REASON <= outcome <= library.LAST_REASON else None
 
     def _written_route(self, is_best: bool) -> Route:
         """The route in the buffers."""
@@ -174,6 +193,7 @@ class Map(Handle):
         """The map as it is now, published: it has what the map has now, for good."""
         published = Map._closed()
         check(self._library.lgm_publish(self._at, published._at))
+        published._version = self._version
         return published
 
     @alone
@@ -181,13 +201,15 @@ class Map(Handle):
         """One more owner of a published map, for another thread. Nothing is copied."""
         other = Map._closed()
         check(self._library.lgm_share(self._at, other._at))
+        other._version = self._version
         return other
 
     @property
     def version(self) -> int:
-        """How many messages, closes and bans the map has accepted, or had when it was published."""
-        with self._lock:
-            return int(self._library.lgm_version_of(self._at))
+        """How many messages, closes and bans the map has accepted, or had when it was published. It is counted here, so it waits
+        for no other call."""
+        self._check_open()
+        return self._version
 
     @alone
     def channel(self, scid: int) -> Channel:
@@ -240,13 +262,13 @@ class Map(Handle):
             yield key.front(length)
             is_first = False
 
-    def _written(self, call: Callable[..., Any], *arguments: Any) -> bytes:
+    def _written(self, call: Callable[..., Any], *arguments: Any, message: bytes = b"") -> bytes:
         """The bytes that a call writes, to a buffer that grows if it is too short. One that was large is given back."""
         outcome = call(self._at, *arguments, self._room.at, self._room.length, self._needed_at)
         if outcome == library.ROOM:
             self._room = Buffer(2 * self._needed.value)
             outcome = call(self._at, *arguments, self._room.at, self._room.length, self._needed_at)
-        check(outcome)
+        check_message(outcome, message)
         written = self._room.front(self._needed.value)
         if self._room.length > KEPT:
             self._room = Buffer(4096)
@@ -255,7 +277,7 @@ class Map(Handle):
     def _messages(self, call: Callable[..., Any], message: Octets) -> List[bytes]:
         """The messages that a call writes, each after its length."""
         message = octets("a message", message)
-        written = self._written(call, message, len(message))
+        written = self._written(call, message, len(message), message=message)
         messages, at = [], 0
         while at < len(written):
             end = at + 8 + int.from_bytes(written[at:at + 8], "little")

@@ -2,7 +2,8 @@
 
 from __future__ import annotations
 
-from typing import Any, Callable, Iterable, Optional, Tuple, Type, TypeVar, Union
+import ctypes
+from typing import Any, Callable, Iterable, List, Optional, Tuple, Type, TypeVar, Union
 
 from . import library
 from .library import Octets, number, octets
@@ -55,6 +56,12 @@ def packed_limit(limit: Limit) -> bytes:
     """A limit of an edge."""
     return library.LIMIT.pack(number("an id", limit.scid, 2**64), number("most_msat", limit.most_msat, 2**64),
                               octets("a point", limit.start, 33))
+
+
+def lent(value: bytes, held: List[Any]) -> int:
+    """The address of bytes, which last as long as what is held."""
+    held.append(ctypes.create_string_buffer(value, max(len(value), 1)))
+    return ctypes.addressof(held[-1])
 
 
 def packed_all(name: str, kind: Type[Record], values: Iterable[Record], pack: Callable[[Record], bytes]) -> Tuple[bytes, int]:

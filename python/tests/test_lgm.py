@@ -6,8 +6,10 @@
 examples/test_embedding.py tests the rest, with the library.
 """
 
+import copy
 import ctypes
 import os
+import pickle
 import sys
 import tempfile
 from dataclasses import replace
@@ -33,6 +35,15 @@ class Stub:
             self.calls.append((name, *arguments))
             return 0
         return call
+
+    def lgm_attempt_route(self, _, attempt, *arguments):
+        """Keeps what the lists of an attempt have, which last as long as the call, and the search."""
+        lists = lgm.library.LISTS.unpack_from(attempt, lgm.library.PAYMENT.size)
+        sizes = lgm.library.EDGE.size, lgm.library.LIMIT.size, 33
+        found = [ctypes.string_at(place, count * size) for place, count, size in zip(lists[::2], lists[1::2], sizes)]
+        assert len(attempt) == 192
+        self.calls.append(("lgm_attempt_route", *found, attempt[-lgm.library.SEARCH.size:], *arguments))
+        return 0
 
 
 def over_edge(network, name):
@@ -170,11 +181,11 @@ def lists_have_classes(network):
 
 
 def asked(library, network, **known):
-    """The arguments of the call that a payment makes, behind the map and the payment."""
+    """The edges, limits and silent nodes of the call that a payment makes, the search, and the other arguments."""
     del library.calls[:]
     network.route(**PAYMENT, **known)
-    (name, _, *arguments), = library.calls
-    assert name == "lgm_route_over"
+    (name, *arguments), = library.calls
+    assert name == "lgm_attempt_route"
     return arguments
 
 
@@ -182,9 +193,7 @@ def what_a_payer_knows_is_packed(library, network):
     """Edges, limits and silent nodes come to the library as C has them."""
     edge = lgm.Edge(2**64 - 1, POINT, b"\3" * 33, 2**32 - 1, 2, 3, 4)
     limit = lgm.Limit(5, bytearray(POINT), 6)
-    edges, edges_len, limits, limits_len, silent, silent_len, *_ = asked(
-        library, network, edges=iter([edge, EDGE]), limits=(limit,), silent=[POINT, CHAIN + b"7"])
-    assert (edges_len, limits_len, silent_len) == (2, 1, 2)
+    edges, limits, silent, *_ = asked(library, network, edges=iter([edge, EDGE]), limits=(limit,), silent=[POINT, CHAIN + b"7"])
     assert lgm.library.EDGE.unpack_from(edges) == (2**64 - 1, 4, 2**64 - 1, 2**32 - 1, 2, 3, POINT, b"\3" * 33)
     assert lgm.library.EDGE.unpack_from(edges, 104) == (1, 0, 2**64 - 1, 0, 0, 0, POINT, POINT) and len(edges) == 2 * 104
     assert lgm.library.LIMIT.unpack(limits) == (5, 6, POINT) and len(limits) == 56
@@ -193,16 +202,16 @@ def what_a_payer_knows_is_packed(library, network):
 
 def what_a_payer_prefers_is_packed(library, network, estimates):
     """Preferences and limits come to the library as C has them, what is left out as 0, and no estimates as a closed handle."""
-    *_, handle, search, _hops, hops_len, _payloads, payloads_len, _lengths = asked(
+    *_, search, handle, _hops, hops_len, _payloads, payloads_len, _lengths = asked(
         library, network, preferences=lgm.Preferences(2**32 - 1, 5), estimates=estimates, most_delay=65_535, most_hops=20,
         most_labels=2**64 - 1, most_steps=7)
     assert lgm.library.SEARCH.unpack(search) == (7, 2**64 - 1, 2**32 - 1, 5, 65_535, 20) and len(search) == 32
     assert (handle, hops_len, payloads_len) == (estimates._at, 20, 1_300)
     for preferences in (None, lgm.Preferences()):
-        *_, handle, search, _hops, _hops_len, _payloads, _payloads_len, _lengths = asked(
+        *lists, search, handle, _hops, _hops_len, _payloads, _payloads_len, _lengths = asked(
             library, network, preferences=preferences)
-        assert search == bytes(32) and ctypes.string_at(handle, 16) == bytes(16)
-    assert asked(library, network, most_delay=1)[7] == lgm.library.SEARCH.pack(0, 0, 0, 0, 1, 0)
+        assert lists == 3 * [b""] and search == bytes(32) and ctypes.string_at(handle, 16) == bytes(16)
+    assert asked(library, network, most_delay=1)[3] == lgm.library.SEARCH.pack(0, 0, 0, 0, 1, 0)
 
 
 class Answering(Stub):
@@ -210,11 +219,14 @@ class Answering(Stub):
 
     def __init__(self, number):
         super().__init__()
-        self.number, self.estimates, self.is_taken = number, None, None
+        self.number, self.estimates, self.is_taken, self.reason = number, None, None, 0
 
-    def lgm_route_over(self, *_):
+    def lgm_attempt_route(self, *_):
         self.is_taken = self.estimates._lock.locked()
         return self.number
+
+    def lgm_no_route_reason(self, *_):
+        return self.reason
 
 
 def routes_tell_whether_they_are_the_best():
@@ -230,6 +242,14 @@ def routes_tell_whether_they_are_the_best():
     library.number = 26
     assert fault(network.route, **PAYMENT, estimates=library.estimates) is lgm.Undecided
     assert not library.estimates._lock.locked() and not network._lock.locked()
+    library.number = 25
+    for library.reason, reason, text in ((44, lgm.Reason.PAYEE_LACKS_AMOUNT, "no-route: payee-lacks-amount"),
+                                         (48, lgm.Reason.BEYOND_BOTH, "no-route: beyond-both"), (26, None, "no-route"),
+                                         (102, None, "no-route"), (0, None, "no-route")):
+        try:
+            network.route(**PAYMENT)
+        except lgm.NoRoute as why:
+            assert (why.reason, str(why)) == (reason, text)
     assert lgm.Route(()) == lgm.Route((), True) != lgm.Route((), False)
 
 
@@ -267,6 +287,36 @@ def large_buffers_are_given_back():
         assert (network._room.length > before.length) is is_kept and network._room.length <= 1 << 20
 
 
+def handles_are_not_copied(network, estimates):
+    """Two objects with one handle would free it twice."""
+    for handle in (network, estimates):
+        for made in (copy.copy, copy.deepcopy, pickle.dumps):
+            assert refusal(made, handle) is TypeError
+
+
+def a_closed_handle_is_refused():
+    """Before the library is called; and it may be closed again."""
+    lgm.library.load = Stub
+    network, estimates = lgm.Map(CHAIN), lgm.Estimates()
+    for handle in (network, estimates):
+        handle.close()
+        handle.close()
+        assert fault(len, handle) is lgm.Closed
+    assert fault(lambda: network.version) is fault(network.route, **PAYMENT) is fault(network.publish) is lgm.Closed
+    assert fault(estimates.get, 1, POINT) is fault(list, estimates) is lgm.Closed
+
+
+def the_version_waits_for_nobody(network):
+    """What was accepted is counted, also while a call runs."""
+    before = network.version
+    network.offer(b"")
+    network.close_channel(1)
+    network.ban(POINT)
+    with network._lock:
+        assert network.version == before + 3
+    assert network.publish().version == network.publish().share().version == before + 3
+
+
 def a_map_is_true(network):
     """Also one without channels, whose length is 0."""
     assert bool(network) and len(network) == 0
@@ -296,7 +346,7 @@ def the_library_is_found_in_order():
     library, named = lgm.library, os.environ.pop("LGM_LIBRARY", None)
     with tempfile.TemporaryDirectory() as folder:
         kept, library.PLACES = library.PLACES, (Path(folder, "first"), Path(folder, "second"))
-        assert library.place() == "liblgm.so.3"
+        assert library.place() == "liblgm.so.4"
         for place in reversed(library.PLACES):
             place.touch()
             assert library.place() == str(place)
@@ -329,12 +379,15 @@ def main():
     what_a_payer_prefers_is_packed(library, network, estimates)
     what_is_believed_is_packed(library, estimates)
     a_map_is_true(network)
+    handles_are_not_copied(network, estimates)
+    the_version_waits_for_nobody(network)
     ids_have_parts()
     the_library_is_found_in_order()
     each_fault_has_a_name()
     large_buffers_are_given_back()
     routes_tell_whether_they_are_the_best()
-    print(f"{len(refusing) + 11} passed")
+    a_closed_handle_is_refused()
+    print(f"{len(refusing) + 14} passed")
 
 
 if __name__ == "__main__":

@@ -3,7 +3,7 @@
 //!     LGM_LIBRARY_DIR=$PWD/../out cargo run --offline --example calls
 
 use lgm::{Arrival, Channel, Direction, Edge, Estimate, Estimates, Fault, Found, Funding, Hop, Limit, Map, Node, Overlay};
-use lgm::{Payment, Record, Search, Sig, Which, write_payloads};
+use lgm::{Payment, Record, Search, Sig, Which, first_fault, write_payloads};
 use std::num::{NonZeroU8, NonZeroU16, NonZeroU64, NonZeroUsize};
 
 const CHAIN: [u8; 32] = [0xc1; 32];
@@ -57,6 +57,7 @@ fn announce(map: &mut Map, behind: &[u8]) -> Result<(), Fault> {
 fn lists() -> Result<(), Fault> {
     let mut map = Map::new(&CHAIN, None, &SEED)?;
     assert_eq!(map.channels().count() + map.nodes().count() + map.banned().count(), 0);
+    assert_eq!((first_fault(&announcement(&[])), first_fault(&[1, 0]).map(Fault::word)), (None, Some("cut".into())));
     let behind = vec![9; 60_000];
     announce(&mut map, &behind)?;
     assert_eq!(word(map.wanted(&announcement(&behind))), "known");
@@ -103,7 +104,7 @@ fn published_maps() -> Result<(), Fault> {
     let mut map = Map::new(&CHAIN, None, &SEED)?;
     let before = map.publish()?;
     announce(&mut map, &[])?;
-    assert_eq!(word(map.share()), "argument");
+    assert_eq!(word(map.share()), "published: not one");
     let mut after = map.publish()?.share()?;
     map.close_channel(SCID)?;
     assert_eq!((before.version(), after.version(), map.version()), (0, 1, 2));
@@ -163,7 +164,16 @@ fn overlays() -> Result<(), Fault> {
         let silenced = Overlay { silent: &[A, B, C], ..over };
         assert_eq!(map.route_over(&payment, &silenced, &Search::default())?, Found { hops, is_best });
         let many = vec![hint; 100_001];
-        assert_eq!(word(map.route_over(&payment, &Overlay { edges: &many, ..over }, &within(30))), "argument");
+        assert_eq!(word(map.route_over(&payment, &Overlay { edges: &many, ..over }, &within(30))), "edges: at most 100,000");
+        let empty = [Edge { htlc_maximum_msat: 0, ..hint }];
+        let nothing = Overlay { edges: &empty, ..over };
+        assert_eq!(word(map.route_over(&payment, &nothing, &within(30))), "edge: a maximum of 0");
+        let why = |over: &Overlay, search: &Search| Ok(map.no_route_reason(&payment, over, search)?.map(Fault::word));
+        assert_eq!(why(&over, &within(30))?, None);
+        assert_eq!(why(&over, &within(29))?, Some("beyond-delay".into()));
+        assert_eq!(why(&Overlay { limits: &limits, ..over }, &within(30))?, Some("unconnected".into()));
+        assert_eq!(why(&Overlay { edges: &edges[..1], ..over }, &within(30))?, Some("payee-takes-no-payment".into()));
+        assert_eq!(word(map.no_route_reason(&payment, &nothing, &within(30))), "edge: a maximum of 0");
     }
     Ok(())
 }
@@ -175,8 +185,8 @@ fn payloads() -> Result<(), Fault> {
     let records = [Record { kind: 65_537, value: &[9] }];
     let arrival = Arrival { total_msat: 30_000, metadata: &[1, 2], records: &records, secret: [7; 32] };
     let same = [Record { kind: 65_537, value: &[] }; 2];
-    assert_eq!(word(write_payloads(&mut hops, &Arrival { records: &same, ..arrival })), "argument");
-    assert_eq!(word(write_payloads(&mut [], &arrival)), "argument");
+    assert_eq!(word(write_payloads(&mut hops, &Arrival { records: &same, ..arrival })), "records: not ascending");
+    assert_eq!(word(write_payloads(&mut [], &arrival)), "hops: no route");
     assert!(hops.iter().all(|hop| hop.payload.is_empty()));
     write_payloads(&mut hops, &arrival)?;
     let both: [u8; 9] = [2, 2, 0x27, 0x10, 4, 3, 0x0a, 0xae, 0x60];

@@ -22,7 +22,7 @@ pub use raw::{Edge, Estimate, Limit};
 pub type Point = [u8; 33];
 
 /// The version of the library that this crate is for, as its header has it.
-pub const LIBRARY_VERSION: u32 = 3;
+pub const LIBRARY_VERSION: u32 = 4;
 
 /// The version of the library that is linked.
 pub fn library_version() -> u32 {
@@ -296,35 +296,27 @@ impl Map {
     ///
     /// The map is locked first, and then the estimates.
     pub fn route_over(&self, payment: &Payment, overlay: &Overlay, search: &Search) -> Result<Found, Fault> {
-        let (asked, mut handle) = (payment.raw(), self.handle());
-        let Overlay { edges, limits, silent } = *overlay;
+        let (attempt, mut handle) = (attempt(payment, overlay, search), self.handle());
         let (mut locked, mut nothing) = (search.estimates.map(Estimates::handle), raw::Handle::closed());
         let known = locked.as_deref_mut().unwrap_or(&mut nothing);
-        let search = search.raw();
         routed(|hops, payloads, lengths| {
             let (room, len) = (hops.as_mut_ptr(), hops.len());
             let (bytes, bytes_len) = (payloads.as_mut_ptr(), payloads.len());
             // SAFETY: two handles of this crate, references, and the lengths of all lists and buffers.
-            unsafe {
-                raw::lgm_route_over(
-                    &mut *handle,
-                    &asked,
-                    edges.as_ptr(),
-                    edges.len(),
-                    limits.as_ptr(),
-                    limits.len(),
-                    silent.as_ptr(),
-                    silent.len(),
-                    known,
-                    &search,
-                    room,
-                    len,
-                    bytes,
-                    bytes_len,
-                    lengths,
-                )
-            }
+            unsafe { raw::lgm_attempt_route(&mut *handle, &attempt, known, room, len, bytes, bytes_len, lengths) }
         })
+    }
+
+    /// Why there is no route over what the payer knows beside the map, within limits, as a fault with one of the numbers 41 to
+    /// 48; `None` if there is a route. What the payer prefers and has learnt doesn't matter.
+    pub fn no_route_reason(&self, payment: &Payment, overlay: &Overlay, search: &Search) -> Result<Option<Fault>, Fault> {
+        let attempt = attempt(payment, overlay, search);
+        // SAFETY: a handle of this crate, and a reference.
+        match unsafe { raw::lgm_no_route_reason(&mut *self.handle(), &attempt) } {
+            0 => Ok(None),
+            number @ 41..=48 => Ok(Some(Fault(number))),
+            number => Err(Fault(number)),
+        }
     }
 
     /// The replies to a peer's query.
@@ -381,6 +373,26 @@ const _: () = {
     is_shared::<Map>();
     is_shared::<Estimates>();
 };
+
+/// An attempt as C has it, which is used while all of this lives.
+fn attempt(payment: &Payment, overlay: &Overlay, search: &Search) -> raw::Attempt {
+    raw::Attempt {
+        payment: payment.raw(),
+        edges: overlay.edges.as_ptr(),
+        edges_len: overlay.edges.len(),
+        limits: overlay.limits.as_ptr(),
+        limits_len: overlay.limits.len(),
+        silent: overlay.silent.as_ptr(),
+        silent_len: overlay.silent.len(),
+        search: search.raw(),
+    }
+}
+
+/// The first fault of a message, by its number in `include/lgm.h`, as the fault `malformed` doesn't tell; `None` if it has none.
+pub fn first_fault(message: &[u8]) -> Option<Fault> {
+    // SAFETY: a reference, and its length.
+    check(unsafe { raw::lgm_fault_of(message.as_ptr(), message.len()) }).err()
+}
 
 /// A map in a handle that a call opens.
 fn opened(open: impl FnOnce(&mut raw::Handle) -> u32) -> Result<Map, Fault> {

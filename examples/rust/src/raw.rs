@@ -39,7 +39,7 @@ pub struct Edge {
     pub scid: u64,
     /// The least amount of a payment over it, in msat.
     pub htlc_minimum_msat: u64,
-    /// The greatest amount that it carries, in msat: of a channel of the payer's own, what it can send.
+    /// The greatest amount that it carries, in msat, at least 1: of a channel of the payer's own, what it can send.
     pub htlc_maximum_msat: u64,
     /// The base fee, in msat. The payer's own channel charges nothing.
     pub fee_base_msat: u32,
@@ -92,6 +92,19 @@ pub struct Search {
     pub hop_msat: u32,
     pub most_delay: u16,
     pub most_hops: u8,
+}
+
+/// A payment to be tried. What its pointers lead to lives as long as the call.
+#[repr(C)]
+pub struct Attempt {
+    pub payment: Payment,
+    pub edges: *const Edge,
+    pub edges_len: usize,
+    pub limits: *const Limit,
+    pub limits_len: usize,
+    pub silent: *const [u8; 33],
+    pub silent_len: usize,
+    pub search: Search,
 }
 
 /// The number that a call returns which wrote a route that may not be the best one.
@@ -263,23 +276,18 @@ unsafe extern "C" {
         payloads_len: usize,
         lengths: *mut Lengths,
     ) -> u32;
-    pub fn lgm_route_over(
+    pub fn lgm_attempt_route(
         map: *mut Handle,
-        payment: *const Payment,
-        edges: *const Edge,
-        edges_len: usize,
-        limits: *const Limit,
-        limits_len: usize,
-        silent: *const [u8; 33],
-        silent_len: usize,
+        attempt: *const Attempt,
         estimates: *mut Handle,
-        search: *const Search,
         hops: *mut Hop,
         hops_len: usize,
         payloads: *mut u8,
         payloads_len: usize,
         lengths: *mut Lengths,
     ) -> u32;
+    pub fn lgm_no_route_reason(map: *mut Handle, attempt: *const Attempt) -> u32;
+    pub fn lgm_fault_of(message: *const u8, message_len: usize) -> u32;
     pub fn lgm_estimates_open(estimates: *mut Handle) -> u32;
     pub fn lgm_estimates_free(estimates: *mut Handle);
     pub fn lgm_estimate(estimates: *mut Handle, scid: u64, from: *const [u8; 33], estimate: *mut Estimate) -> u32;
