@@ -24,12 +24,14 @@ from pathlib import Path
 TOP = Path(__file__).resolve().parent.parent
 HEADER = TOP / "include" / "lgm.h"
 SOURCES = TOP / "crates" / "lgm_c" / "src"
+REASONS = TOP / "crates" / "lgm_route" / "src" / "no_route.rt"
 PYTHON = TOP / "python" / "lgm" / "library.py"
 RUST = TOP / "examples" / "rust" / "src"
 # The names of structs in C, and of types in C and in ctypes.
 STRUCTS = {"LgmMap": "lgm_map", "LgmPayment": "lgm_payment", "LgmHop": "lgm_hop", "LgmLengths": "lgm_lengths",
            "LgmEstimates": "lgm_estimates", "LgmEstimate": "lgm_estimate_info",
            "LgmEdge": "lgm_edge", "LgmLimit": "lgm_limit", "LgmPoint": "lgm_point", "LgmSearch": "lgm_search",
+           "LgmAttempt": "lgm_attempt",
            "LgmRecord": "lgm_record", "LgmArrival": "lgm_arrival", "LgmDirection": "lgm_direction", "LgmChannel": "lgm_channel_info", "LgmNode": "lgm_node_info"}
 TYPES = {"bool": ("bool", ctypes.c_bool), "u8": ("uint8_t", ctypes.c_uint8), "u16": ("uint16_t", ctypes.c_uint16),
          "u32": ("uint32_t", ctypes.c_uint32), "u64": ("uint64_t", ctypes.c_uint64), "usize": ("size_t", ctypes.c_size_t),
@@ -37,7 +39,7 @@ TYPES = {"bool": ("bool", ctypes.c_bool), "u8": ("uint8_t", ctypes.c_uint8), "u1
 # A field whose name is a keyword of Rattle's.
 FIELDS = {"kind": "type"}
 # Faults of the sources that no call returns, so that the header has no name for them.
-UNNAMED = {"LGM_CONFLICT"}
+UNNAMED = {"LGM_CONFLICT", "LGM_FAULT_TLV_TOO_LONG"}
 # Constants of the header that the protocol sets, and no number of the sources of this crate.
 OF_THE_PROTOCOL = {"LGM_MOST_HOPS", "LGM_MOST_PAYLOADS"}
 
@@ -136,8 +138,14 @@ def source_constants(text):
     constants["LGM_WORD_LEN"] = int(re.search(r"fn lgm_word\(number: u32, word: &mut \[u8; (\d+)\]\)", text)[1])
     for name, number in re.findall(r"^(?:pub\(crate\) )?const (\w+): u\w+ = ([\d_]+);", text, flags=re.MULTILINE):
         constants["LGM_" + name] = int(number)
-    for name, number in re.findall(r"Fault::(?:Unrouted\(RouteFault::)?(\w+)\)? => (\d+),", text):
+    for name, number in re.findall(r"\bFault::(?:Unrouted\(RouteFault::)?(\w+)\)? => (\d+),", text):
         constants["LGM_" + upper(name)] = int(number)
+    for name, number in re.findall(r"\bArgumentFault::(\w+) => (\d+),", text):
+        constants["LGM_ARGUMENT_" + upper(name)] = int(number)
+    for name, number in re.findall(r"\bNoRouteReason::(\w+) => (\d+),", text):
+        constants["LGM_" + upper(name)] = int(number)
+    for name, other, number in re.findall(r"\bDecodeFault::(\w+)(?:\(_\)|\(WireFault::(\w+)\))? => (5\d|6\d),", text):
+        constants["LGM_FAULT_" + "_".join(map(upper, filter(None, (name, other))))] = int(number)
     for number, name in re.findall(r"(\d+) => Some\(Ref\w*::(\w+)\)", text):
         constants["LGM_" + upper(name)] = int(number)
     for number, kind, name in re.findall(r"(\d+) => (Sig|Funding)::(\w+(?:\(false\))?)", text):
@@ -203,8 +211,8 @@ def layout_differs(sources):
 
 
 def source_text():
-    """The sources of the crate."""
-    return "\n".join(path.read_text() for path in sorted(SOURCES.glob("*.rt")))
+    """The sources of the crate, and that of the numbers of reasons."""
+    return "\n".join(path.read_text() for path in [*sorted(SOURCES.glob("*.rt")), REASONS])
 
 
 def unwrapped(header):

@@ -48,9 +48,9 @@ def answer(hops, **beside):
     return found
 
 
-def is_refused(hops, **beside):
-    """Whether the answer is LGM_ARGUMENT, and nothing was written."""
-    return asked(hops, **beside) == (103, hops, (7, 7), b"\7" * MOST_PAYLOADS)
+def is_refused(number, hops, **beside):
+    """Whether the answer is this number, and nothing was written."""
+    return asked(hops, **beside) == (number, hops, (7, 7), b"\7" * MOST_PAYLOADS)
 
 
 @test
@@ -75,9 +75,10 @@ def metadata_and_custom_records():
 @test
 def wrong_records():
     """Types below 65,536, and types that aren't ascending, are refused."""
-    for records in ([(65_535, b"")], [(16, METADATA)], [(2, b"\1"), (65_536, b"")], [(65_536, b""), (8, b"")],
-                    [(65_536, b""), (65_536, b"")], [(KEYSEND, PREIMAGE), (65_537, b"")], [(0, b"")]):
-        assert is_refused(TWO, records=records)
+    for records in ([(65_535, b"")], [(16, METADATA)], [(2, b"\1"), (65_536, b"")], [(65_536, b""), (8, b"")], [(0, b"")]):
+        assert is_refused(117, TWO, records=records)
+    for records in ([(65_536, b""), (65_536, b"")], [(KEYSEND, PREIMAGE), (65_537, b"")]):
+        assert is_refused(118, TWO, records=records)
 
 
 @test
@@ -88,23 +89,23 @@ def the_length_of_an_onion():
     found = answer(one, records=[(65_536, bytes(1_212))])
     assert found == [b"\xfd\x04\xf1" + PAID + b"\xfe\0\1\0\0\xfd\x04\xbc" + bytes(1_212)]
     assert len(found[0]) + 32 == 1_300
-    assert is_refused(one, records=[(65_536, bytes(1_213))])
-    assert is_refused(one, metadata=bytes(100_000))
+    assert is_refused(119, one, records=[(65_536, bytes(1_213))])
+    assert is_refused(119, one, metadata=bytes(100_000))
 
 
 @test
 def hops_that_are_no_route():
     """1 to 20 hops are a route, each of which begins where the one before ends, with no greater amount and no later expiry."""
     first, last = TWO
-    assert is_refused([])
-    assert is_refused([first, last._replace(start=A)])
-    assert is_refused([first._replace(end=C), last])
-    assert is_refused([first, last._replace(amount_msat=10_006)])
-    assert is_refused([first, last._replace(expiry=700_031)])
-    assert is_refused([last, first])
+    assert is_refused(116, [])
+    assert is_refused(116, [first, last._replace(start=A)])
+    assert is_refused(116, [first._replace(end=C), last])
+    assert is_refused(116, [first, last._replace(amount_msat=10_006)])
+    assert is_refused(116, [first, last._replace(expiry=700_031)])
+    assert is_refused(116, [last, first])
     same = first._replace(start=A, end=A)
     assert len(answer([same] * 20)) == 20
-    assert is_refused([same] * 21)
+    assert is_refused(116, [same] * 21)
 
 
 @test
@@ -126,8 +127,8 @@ def from_python():
     assert lgm.payloads(route, SECRET, 30_000, records=records)[1] == b"\x3e" + PAID + behind
     assert lgm.payloads(route, SECRET, 30_000, METADATA, {KEYSEND: PREIMAGE})[1] == b"\x5c" + PAID + MORE
     assert lgm.payloads(route, SECRET)[1] == b"\x2d" + PAID[:-2] + b"\x27\x10"
-    refused = [(lgm.Argument, (replace(route, hops=()), SECRET)), (lgm.Argument, (replace(route, hops=hops[::-1]), SECRET)),
-               (lgm.Argument, (route, SECRET, 1, bytes(1_300))), (ValueError, (route, SECRET[1:])),
+    refused = [(lgm.WrongHops, (replace(route, hops=()), SECRET)), (lgm.WrongHops, (replace(route, hops=hops[::-1]), SECRET)),
+               (lgm.PayloadsTooLong, (route, SECRET, 1, bytes(1_300))), (ValueError, (route, SECRET[1:])),
                (ValueError, (route, SECRET, 2**64)), (ValueError, (route, SECRET, 1, b"", {65_535: b""})),
                (TypeError, (hops, SECRET)), (TypeError, (route, SECRET, 1, "m")),
                (TypeError, (route, SECRET, 1, b"", {65_536: 1}))]

@@ -1,10 +1,13 @@
-"""Payments over what a payer knows beside the map, and by what it prefers, in a map that changes and in a published one. The
-numbers are worked out by hand, from docs/protocol.md.
+"""Payments over what a payer knows beside the map, and by what it prefers, in a map that changes and in a published one, and why
+there is no route. The numbers are worked out by hand, from docs/protocol.md.
 """
+
+import time
+from ctypes import addressof, create_string_buffer
 
 from calls import (
     A, B, HOP, LENGTHS, NUMBER, PAYLOAD, PAYMENT, SECRET, Hop, at, closed, free, library, opened, paid, published, test)
-from lgm.library import EDGE, LIMIT, MOST_HOPS, MOST_PAYLOADS, SEARCH
+from lgm.library import EDGE, LIMIT, LISTS, MOST_HOPS, MOST_PAYLOADS, SEARCH
 
 C, D = b"\4" * 33, b"\5" * 33
 DIRECT = 0, 1, NUMBER, 10_000, 700_000  # the answer over the channel of the map alone
@@ -36,16 +39,28 @@ TWO_HINTS = edge(6, B, C, 5, 30, 19_999) + edge(7, B, C, 9, 10)
 OVER_6, OVER_7 = (0, 2, NUMBER, 10_005, 700_030), (0, 2, NUMBER, 10_009, 700_010)  # the answers over these
 
 
-def route_over(handle, payee, amount_msat=10_000, edges=b"", limits=b"", silent=b"", estimates=None, asked=PLAIN,
-               hops_len=MOST_HOPS, payloads_len=MOST_PAYLOADS):
-    """What a payment of A at block 700,000 is answered: the number, the first hop over zeros, the lengths over 7, and the
-    payloads. Edges, limits and silent nodes stand one after the other. Nothing is known without a handle of estimates."""
-    payment, estimates = PAYMENT.pack(amount_msat, 700_000, A, payee, SECRET), closed() if estimates is None else estimates
+def attempt(payee, amount_msat=10_000, edges=b"", limits=b"", silent=b"", asked=PLAIN):
+    """A payment of A at block 700,000, over edges, limits and silent nodes that stand one after the other; and what has them."""
+    held = [create_string_buffer(value, max(len(value), 1)) for value in (edges, limits, silent)]
+    counts = len(edges) // EDGE.size, len(limits) // LIMIT.size, len(silent) // 33
+    lists = (part for value, count in zip(held, counts) for part in (addressof(value), count))
+    return PAYMENT.pack(amount_msat, 700_000, A, payee, SECRET) + LISTS.pack(*lists) + asked, held
+
+
+def route_over(handle, payee, estimates=None, hops_len=MOST_HOPS, payloads_len=MOST_PAYLOADS, **beside):
+    """What such a payment is answered: the number, the first hop over zeros, the lengths over 7, and the payloads. Nothing is
+    known without a handle of estimates."""
+    given, _held = attempt(payee, **beside)
+    estimates = closed() if estimates is None else estimates
     hops, payloads, lengths = bytearray(hops_len * HOP.size), bytearray(payloads_len), bytearray(LENGTHS.pack(7, 7))
-    number = library.lgm_route_over(
-        handle, payment, edges, len(edges) // EDGE.size, limits, len(limits) // LIMIT.size, silent, len(silent) // 33,
-        estimates, asked, at(hops), hops_len, at(payloads), payloads_len, at(lengths))
+    number = library.lgm_attempt_route(handle, given, estimates, at(hops), hops_len, at(payloads), payloads_len, at(lengths))
     return number, Hop(*HOP.unpack_from(hops)), LENGTHS.unpack(lengths), payloads
+
+
+def reason(handle, payee, **beside):
+    """Why such a payment has no route: 0 if it has one."""
+    given, _held = attempt(payee, **beside)
+    return library.lgm_no_route_reason(handle, given)
 
 
 def answer(handle, payee, **beside):
@@ -174,14 +189,85 @@ def small_budgets():
 
 
 @test
+def reasons():
+    """The first reason that holds is told, whatever the later ones are."""
+    handles = both_kinds()
+    hint = edge(6, B, C, 5, 30, 10_000)
+    asked = dict(edges=hint, asked=search(most_delay=29, most_hops=1))
+    for handle in handles:
+        assert reason(handle, B) == reason(handle, C, edges=hint) == 0
+        assert reason(handle, C, silent=A, **asked) == 41
+        assert reason(handle, C) == 42
+        assert reason(handle, C, limits=limit(NUMBER, A, 9_999) + limit(6, B, 9_999), **asked) == 43
+        assert reason(handle, C, limits=limit(6, B, 9_999), **asked) == 44
+        assert reason(handle, C, limits=limit(NUMBER, A, 10_004), **asked) == 45
+        assert reason(handle, C, **asked) == 46
+        assert reason(handle, C, edges=hint, asked=search(most_delay=30, most_hops=1)) == 47
+        detour = hint + edge(7, B, D, 0, 1) + edge(8, D, C, 0, 1)
+        assert reason(handle, C, edges=detour, asked=search(most_delay=29, most_hops=2)) == 48
+        assert reason(handle, C, edges=detour, asked=search(most_delay=29, most_hops=3)) == 0
+        assert reason(handle, A) == 24 and reason(handle, C, amount_msat=0) == 21
+        # What the payer prefers and the budget of the search don't matter where the best route of all is within the limits.
+        assert reason(handle, C, edges=hint, asked=search(failure_msat=9, hop_msat=9, most_labels=1, most_steps=1)) == 0
+        dear = hint + edge(7, B, D, 9, 1) + edge(8, D, C, 0, 1)
+        assert reason(handle, C, edges=dear, asked=search(most_delay=2)) == 0
+        assert reason(handle, C, edges=dear, asked=search(most_delay=2, most_labels=1)) == 26
+    free(*handles)
+    assert reason(handles[0], B) == 100
+
+
+@test
+def no_maximum():
+    """An edge that carries nothing is refused, wherever it is, and one that carries 1 msat isn't."""
+    handle = opened()
+    for edges in (edge(6, B, C, 5, 30, 0), edge(6, B, C, 5, 30) + edge(7, C, D, 0, 0, 0)):
+        assert answer(handle, C, edges=edges) == refusal(114)
+        assert answer(handle, C, amount_msat=0, edges=edges) == refusal(114)
+        assert reason(handle, C, edges=edges) == 114
+    assert answer(handle, C, edges=edge(6, B, C, 5, 30) + edge(7, C, D, 0, 0, 1))[0] == 0
+    free(handle)
+
+
+@test
+def most_limits():
+    """300,001 limits are refused, 300,000 are used; and too many edges are the first fault."""
+    handle = opened()
+    limits = 299_999 * limit(5, B, 0) + limit(NUMBER, A, 9_999)
+    assert answer(handle, B, limits=limits) == refusal(25)
+    limits += limit(5, B, 0)
+    assert answer(handle, B, limits=limits) == refusal(113)
+    assert answer(handle, B, amount_msat=0, limits=limits) == refusal(113)
+    assert answer(handle, B, edges=100_001 * edge(5, B, A, 0, 0, 0), limits=limits) == refusal(112)
+    free(handle)
+
+
+@test
+def many_of_one_node():
+    """100,000 edges of one node, and 300,000 limits of them, take less than a second."""
+    handle = opened()
+    edges = b"".join(edge(1_000 + number, B, C, 5, 30) for number in range(100_000))
+    limits = b"".join(limit(1_000 + number % 100_000, B, 10_000 - number // 200_000) for number in range(299_999))
+    given, _held = attempt(C, edges=edges, limits=limits)
+    hops, payloads, lengths = bytearray(MOST_HOPS * HOP.size), bytearray(MOST_PAYLOADS), bytearray(LENGTHS.size)
+    before = time.perf_counter()
+    number = library.lgm_attempt_route(
+        handle, given, closed(), at(hops), MOST_HOPS, at(payloads), MOST_PAYLOADS, at(lengths))
+    took = time.perf_counter() - before
+    # Of the last id alone the third limit is missing, so that it carries the amount.
+    assert (number, Hop(*HOP.unpack_from(hops, HOP.size)).scid) == (0, 100_999)
+    assert took < 1, f"{took:.2f} s"
+    free(handle)
+
+
+@test
 def most_edges():
     """100,001 edges are refused, whatever the payment is; 100,000 are used."""
     handles = both_kinds()
     edges = 99_999 * edge(5, B, A, 0, 0) + edge(6, B, C, 5, 30)
     assert answer_of_both(handles, C, edges=edges) == (0, 2, NUMBER, 10_005, 700_030)
     edges += edge(5, B, A, 0, 0)
-    assert answer_of_both(handles, C, edges=edges) == refusal(103)
-    assert answer(handles[0], C, amount_msat=0, edges=edges) == refusal(103)
+    assert answer_of_both(handles, C, edges=edges) == refusal(112)
+    assert answer(handles[0], C, amount_msat=0, edges=edges) == refusal(112)
     free(*handles)
     assert answer(handles[0], C, amount_msat=0, edges=edges) == refusal(100)
 

@@ -17,7 +17,8 @@ def items():
     assert library.lgm_open(handle, CHAIN, False, b"\1", 1, SEED) == 0
     assert library.lgm_open(handle, CHAIN, True, b"", 0, SEED) == 101
     assert offered(handle, b"", 0, 1) == 1
-    assert offered(handle, ANNOUNCEMENT, 4, 1) == 103
+    assert offered(handle, ANNOUNCEMENT, 4, 4) == 110
+    assert offered(handle, ANNOUNCEMENT, 0, 4) == 111
     assert offered(handle, ANNOUNCEMENT, 0, 2) == 9
     assert offered(handle, ANNOUNCEMENT, 1, 1) == 10
     assert offered(handle, UPDATE, 2, 0) == 11
@@ -113,10 +114,34 @@ def word_of(number):
 
 @test
 def words():
-    """A number has its word, with zeros behind it, or none; and the version is 3."""
+    """A number has its word, with zeros behind it, or none; and the version is 4."""
     assert word_of(0) == b"accepted\0\0\0\0\0\0\0\0\0\0\0\0\0\0\0\0"
     assert word_of(26) == b"undecided\0\0\0\0\0\0\0\0\0\0\0\0\0\0\0"
     assert word_of(27) == b"so-far\0\0\0\0\0\0\0\0\0\0\0\0\0\0\0\0\0\0"
     assert word_of(106) == b"published\0\0\0\0\0\0\0\0\0\0\0\0\0\0\0"
-    assert word_of(17) == bytes(24)
-    assert library.lgm_version() == 3
+    for number, word in ((41, b"payer-has-no-channel"), (48, b"beyond-both"), (53, b"cut"), (61, b"flags"),
+                         (113, b"limits: at most 300,000"), (120, b"which: 0, 1 or 2")):
+        assert word_of(number) == word.ljust(24, b"\0")
+    for number in (17, 40, 49, 50, 62, 103, 109, 121):
+        assert word_of(number) == bytes(24)
+    assert library.lgm_version() == 4
+
+
+def first_fault(message):
+    """The first fault of a message."""
+    return library.lgm_fault_of(message, len(message))
+
+
+@test
+def first_faults():
+    """The first fault by the table of docs/protocol.md, from left to right."""
+    assert first_fault(ANNOUNCEMENT) == first_fault(UPDATE) == first_fault(NODE_OF_A) == first_fault(RANGE) == 0
+    assert first_fault(bytes(65_536)) == 51
+    assert first_fault(b"") == first_fault(b"\1") == 52
+    assert first_fault(b"\1\4") == 2 and first_fault(b"\1\3") == 3
+    assert first_fault(UPDATE[:-1]) == first_fault(b"\1\0") == 53
+    ids = b"\1\5" + CHAIN  # query_short_channel_ids
+    assert first_fault(ids + b"\0\1\1") == 54
+    assert first_fault(ids + b"\0\3\0\0\0") == 55
+    for stream, fault in ((b"\1", 56), (b"\xfd\0\1\0", 57), (b"\3\0\3\0", 59), (b"\2\0", 60), (b"\1\0", 61), (b"\3\0", 0)):
+        assert first_fault(ids + b"\0\0" + stream) == fault, stream

@@ -93,7 +93,7 @@ def stored_messages():
     assert message(handle, NUMBER, 3, room) == (100, 7)
     assert node_message(handle, room) == (100, 7)
     handle = opened()
-    assert message(handle, NUMBER, 3, room) == (103, 7)
+    assert message(handle, NUMBER, 3, room) == (120, 7)
     assert message(handle, OTHER, 1, room) == (11, 7)
     assert message(handle, NUMBER, 2, room) == (107, 7)
     assert message(handle, NUMBER, 0, bytearray(431)) == (104, 432)

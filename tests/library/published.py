@@ -82,9 +82,12 @@ def owners():
     assert library.lgm_share(first, other) == 100
     handle = opened()
     # A map that changes isn't shared, whatever the other handle is.
-    assert library.lgm_share(handle, other) == 103
+    assert library.lgm_share(handle, other) == library.lgm_share(handle, handle) == 115
     first = published(handle)
-    assert library.lgm_share(handle, first) == 103
+    assert library.lgm_share(handle, first) == 115
+    # A handle isn't opened with its own map.
+    assert library.lgm_publish(handle, handle) == library.lgm_publish(first, first) == library.lgm_share(first, first) == 101
+    assert seen(handle) == seen(first) == (2, 1)
     assert library.lgm_share(first, other) == 0
     assert library.lgm_share(first, other) == 101
     third = published(other)
