@@ -2,7 +2,7 @@
 //!
 //! Their length is counted first, which takes no memory. Only if the buffer has room for them are they put together.
 
-ghost use Rattle.std.specs.Prelude.{◌≡◌, ◌+◌, ◌++◌, length, IfOk, IfSome, OnOk};
+ghost use Rattle.std.specs.Prelude.{◌≡◌, ◌+◌, ◌^◌, ◌≤◌, ◌++◌, length, IfOk, IfSome, IsNone, OnOk};
 ghost use Rattle.lgm_store.specs.Rows.{empty};
 ghost use Rattle.lgm_query.specs.Backlog.{backlog, news};
 ghost use Rattle.lgm_timeline.specs.Timeline.{newest};
@@ -28,14 +28,16 @@ fn frame(written: &mut Vec<u8>, message: &[u8]) -> Result<(), AllocError>
 
 /// A number of bytes, and those of a message after its length, unless that is beyond 2^64.
 fn with_frame(bytes: usize, message: &[u8]) -> Option<usize>
-    ensures { IfSome result (λ sum. sum ≡ bytes + length (framed message.now)) }
+    ensures sum { IfSome result (λ sum. sum ≡ bytes + length (framed message.now)) }
+    ensures none { IsNone result → 2 ^ 64 ≤ bytes + length (framed message.now) }
 {
     bytes.checked_add(8)?.checked_add(message.len())
 }
 
 /// The number of bytes of replies, each after its length.
 fn replies_length(replies: &[ReplyMessage<'_>]) -> Option<usize>
-    ensures { IfSome result (λ sum. sum ≡ length (all_framed replies.now)) }
+    ensures sum { IfSome result (λ sum. sum ≡ length (all_framed replies.now)) }
+    ensures none { IsNone result → 2 ^ 64 ≤ length (all_framed replies.now) }
 {
     let mut sum = 0;
     for reply in replies {
@@ -84,7 +86,8 @@ pub(crate) fn write_replies(
 
 /// The number of bytes of what passes a filter, each message after its length.
 fn backlog_length(backlog: Backlog<'_>) -> Option<usize>
-    ensures { IfSome result (λ sum. sum ≡ length (all_framed backlog.entry)) }
+    ensures sum { IfSome result (λ sum. sum ≡ length (all_framed backlog.entry)) }
+    ensures none { IsNone result → 2 ^ 64 ≤ length (all_framed backlog.entry) }
 {
     let mut sum = 0;
     for message in backlog {
@@ -143,7 +146,8 @@ pub(crate) fn write_first_news(
 
 /// The number of bytes of news, each message after its length.
 fn news_length(news: News<'_, '_>) -> Option<usize>
-    ensures { IfSome result (λ sum. sum ≡ length (all_framed news.entry)) }
+    ensures sum { IfSome result (λ sum. sum ≡ length (all_framed news.entry)) }
+    ensures none { IsNone result → 2 ^ 64 ≤ length (all_framed news.entry) }
 {
     let mut sum = 0;
     for message in news {
