@@ -23,7 +23,6 @@ pub mod Slotted
 pub mod SlotNumberLaws
 pub mod StoredUpdateLaws
 pub mod ScidSetLaws
-pub mod DecisionLaws
 pub mod Verdicts
 pub mod SpelledRowLaws
 pub mod ChannelCountLaws

@@ -7,7 +7,7 @@ ghost use Rattle.lgm_store.specs.ChannelInfo.{update_in, timestamps_in};
 ghost use Rattle.lgm_store.specs.ChannelWithUpdates.{timestamp_of};
 ghost use Rattle.lgm_store.specs.Rows.{is_second};
 ghost use Rattle.lgm_store.specs.Admission.{update_admission, Offers};
-ghost use Rattle.lgm_store.specs.inner.Decided.{update_op, update_verdict};
+ghost use Rattle.lgm_store.specs.inner.Decided.{update_op};
 
 use crate::shared::Shared;
 use lgm_check::{ChannelRow, Refusal, StoredChannel, StoredUpdate, UpdateRow};
@@ -189,18 +189,12 @@ impl ChannelInfo {
         ensures { update_op row.now result ≡ update_admission (Some self.now.channel)
             (update_in (is_second row.now) self.now) row.now signer.now }
     {
-        self.check_update(row.is_second(), row.message.timestamp, signer)
-    }
-
-    fn check_update(&self, second: bool, time: u32, signer: &Point) -> Result<(), Refusal>
-        ensures { result
-            ≡ update_verdict self.now.channel (update_in second self.now) second time signer.now }
-    {
+        let second = row.is_second();
         if *signer != *self.node(second) {
             return Err(Refusal::Signature);
         }
         match self.update_time(second) {
-            Some(stored) if stored >= time => Err(Refusal::NotNewer),
+            Some(stored) if stored >= row.message.timestamp => Err(Refusal::NotNewer),
             _ => Ok(()),
         }
     }

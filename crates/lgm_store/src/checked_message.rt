@@ -4,11 +4,12 @@ ghost use Rattle.std.specs.Prelude.{◌≡◌, IfOk};
 ghost use Rattle.lgm_wire.specs.reading.Reading.{Gives};
 ghost use Rattle.lgm_check.specs.Precheck.{checked_of};
 ghost use Rattle.lgm_check.specs.CheckedKind.{row_of, Fits};
+ghost use Rattle.lgm_store.specs.Spelled.{IsSpelled};
 ghost use Rattle.lgm_store.specs.inner.CheckedMessage.{message_of};
 
 use crate::shared::Shared;
 use lgm_check::{
-    CheckedKind, Evidence, Refusal, StoredChannel, StoredNode, StoredUpdate, precheck_kind,
+    Checked, CheckedKind, Evidence, Refusal, StoredChannel, StoredNode, StoredUpdate, precheck_kind,
 };
 use lgm_gossip::{ChainHash, Point};
 use std::alloc::{AllocError, Global};
@@ -44,6 +45,25 @@ impl Model for CheckedMessage {
 }
 
 impl CheckedMessage {
+    /// Stores the row of a checked message, whose bytes have to encode it. The only error is out of memory.
+    pub(crate) fn of(alloc: Global, checked: &Checked) -> Result<CheckedMessage, AllocError>
+        requires { IsSpelled checked.now }
+        ensures { IfOk result (λ made. made ≡ checked.now) }
+    {
+        let stored = match checked {
+            Checked::Channel(row) => {
+                StoredMessage::Channel(Shared::new(alloc, StoredChannel::of(alloc, row)?)?)
+            }
+            Checked::Update(row, signer) => {
+                StoredMessage::Update(Shared::new(alloc, StoredUpdate::of(alloc, row)?)?, *signer)
+            }
+            Checked::Node(row) => {
+                StoredMessage::Node(Shared::new(alloc, StoredNode::of(alloc, row)?)?)
+            }
+        };
+        Ok(CheckedMessage { stored })
+    }
+
     /// Checks a message as [`precheck`](lgm_check::precheck) does, and stores one that is accepted, with a copy of its
     /// bytes.
     ///

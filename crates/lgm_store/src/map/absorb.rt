@@ -6,10 +6,10 @@ ghost use Rattle.std.specs.Map.{keys_of, values_of};
 ghost use Rattle.lgm_store.specs.Rows.{channel_of, node_of, ends_channel, ends_banned, is_banned};
 ghost use Rattle.lgm_store.specs.Keys.{IsKeyed, point_cmp, point_of};
 ghost use Rattle.lgm_store.specs.inner.ChannelsByNode.{stays_beside};
+ghost use Rattle.lgm_store.specs.Admission.{node_admission};
 ghost use Rattle.lgm_store.specs.History.{with_channel, with_update, with_node, without_channel, absorbed, fold};
 ghost use Rattle.lgm_store.specs.History.{with_ban};
 ghost use Rattle.lgm_store.specs.Reading.{ids_at};
-ghost use Rattle.lgm_store.specs.inner.Decided.{node_verdict};
 
 use super::{Map, Parts};
 use crate::banned::Banned;
@@ -104,9 +104,9 @@ impl Map {
     /// Stores a node announcement, sharing its row, and returns true, if it is admitted. Out of memory leaves the map
     /// unchanged.
     pub(crate) fn add_node(&mut self, row: &Shared<StoredNode>) -> Result<bool, AllocError>
-        ensures admitted { (added : Bool) → result ≡ Ok added → is_ok (node_verdict
+        ensures admitted { (added : Bool) → result ≡ Ok added → is_ok (node_admission
             (is_banned self.old.banned (point_of row.now)) (ends_channel self.old.channels (point_of row.now))
-            (node_of self.old.nodes (point_of row.now)) row.now.message.timestamp) ≡ added }
+            (node_of self.old.nodes (point_of row.now)) row.now) ≡ added }
         ensures stored { result ≡ Ok true → self.new ≡ with_node self.old row.now }
         ensures same { result ≢ Ok true → self.new ≡ self.old }
     {

@@ -5,17 +5,13 @@ ghost use Rattle.lgm_store.specs.Rows.{channel_of, update_of, node_of, ends_chan
 ghost use Rattle.lgm_store.specs.Admission.{channel_admission, update_admission, node_admission};
 ghost use Rattle.lgm_store.specs.Admission.{admitted, admitted_close, verdict_of, Offers};
 ghost use Rattle.lgm_store.specs.inner.Decided.{channel_op, update_op, node_op};
-ghost use Rattle.lgm_store.specs.inner.Decided.{channel_verdict, node_verdict};
 ghost use Rattle.lgm_store.specs.Spelled.{IsSpelled};
 
 use super::Map;
 use crate::checked_message::{CheckedMessage, StoredMessage};
 use crate::op::Op;
 use crate::shared::Shared;
-use lgm_check::{
-    BanRow, ChannelRow, Checked, NodeRow, Refusal, StoredChannel, StoredNode, StoredUpdate,
-    UpdateRow,
-};
+use lgm_check::{BanRow, ChannelRow, Checked, NodeRow, Refusal, UpdateRow};
 use lgm_gossip::{Point, Scid};
 use std::alloc::Global;
 
@@ -35,20 +31,9 @@ impl Map {
         requires { IsSpelled checked.now }
         ensures { Offers result (admitted self.now checked.now) }
     {
-        match checked {
-            Checked::Channel(row) => match self.admit_channel(row)? {
-                Some(ban) => Ok(Op::Ban(Shared::new(alloc, ban)?)),
-                None => Ok(Op::Channel(Shared::new(alloc, StoredChannel::of(alloc, row)?)?)),
-            },
-            Checked::Update(row, signer) => {
-                self.admit_update(row, signer)?;
-                Ok(Op::Update(Shared::new(alloc, StoredUpdate::of(alloc, row)?)?))
-            }
-            Checked::Node(row) => {
-                self.admit_node(row)?;
-                Ok(Op::Node(Shared::new(alloc, StoredNode::of(alloc, row)?)?))
-            }
-        }
+        self.verdict(checked)?;
+        let message = CheckedMessage::of(alloc, checked)?;
+        self.admit_checked(alloc, message)
     }
 
     /// Whether a message is admitted, or why it isn't, as [`Map::admit`] says. Allocates nothing.
@@ -102,31 +87,20 @@ impl Map {
         ensures { channel_op row.now result ≡ channel_admission self.now.banned
             (channel_of self.now.channels row.now.message.short_channel_id) row.now }
     {
-        self.check_channel(row.scid(), &row.node(false), &row.node(true))
-    }
-
-    fn check_channel(
-        &self,
-        scid: Scid,
-        first: &Point,
-        second: &Point,
-    ) -> Result<Option<BanRow>, Refusal>
-        ensures { result
-            ≡ channel_verdict self.now.banned (channel_of self.now.channels scid) first.now second.now }
-    {
-        if self.parts.banned.contains_either(first, second) {
+        let (first, second) = (row.node(false), row.node(true));
+        if self.parts.banned.contains_either(&first, &second) {
             return Err(Refusal::Banned);
         }
-        match self.channel_info(scid) {
+        match self.channel_info(row.scid()) {
             None => Ok(None),
-            Some(stored) if stored.node(false) == first && stored.node(true) == second => {
+            Some(stored) if *stored.node(false) == first && *stored.node(true) == second => {
                 Err(Refusal::Known)
             }
             Some(stored) => Ok(Some(BanRow {
                 held1: *stored.node(false),
                 held2: *stored.node(true),
-                new1: *first,
-                new2: *second,
+                new1: first,
+                new2: second,
             })),
         }
     }
@@ -149,21 +123,15 @@ impl Map {
             node_op row.now result ≡ node_admission (is_banned self.now.banned node)
             (ends_channel self.now.channels node) (node_of self.now.nodes node) row.now }
     {
-        self.check_node(&row.node(), row.message.timestamp)
-    }
-
-    fn check_node(&self, node: &Point, time: u32) -> Result<(), Refusal>
-        ensures { result ≡ node_verdict (is_banned self.now.banned node.now)
-            (ends_channel self.now.channels node.now) (node_of self.now.nodes node.now) time }
-    {
-        if self.banned(node) {
+        let node = row.node();
+        if self.banned(&node) {
             return Err(Refusal::Banned);
         }
-        if !self.ends_channel(node) {
+        if !self.ends_channel(&node) {
             return Err(Refusal::UnknownNode);
         }
-        match self.stored_node(node) {
-            Some(stored) if time <= stored.timestamp() => Err(Refusal::NotNewer),
+        match self.stored_node(&node) {
+            Some(stored) if row.message.timestamp <= stored.timestamp() => Err(Refusal::NotNewer),
             _ => Ok(()),
         }
     }

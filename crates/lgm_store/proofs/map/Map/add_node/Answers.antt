@@ -3,11 +3,10 @@ use Rattle.std.specs.Prelude.{is_ok}
 use Rattle.lgm_gossip.specs.Message.{Wire}
 use Rattle.lgm_gossip.specs.declared.message.Message.TheVariants as wired
 use Rattle.lgm_check.specs.declared.row.NodeRow.{NodeRow}
-use Rattle.lgm_store.specs.Admission.{node_is_newer}
+use Rattle.lgm_store.specs.Admission.{node_admission, node_is_newer}
 use Rattle.lgm_store.specs.Keys.{point_of}
-use Rattle.lgm_store.specs.inner.Decided.{node_verdict}
 use Rattle.lgm_store.specs.Rows.{node_of, ends_channel, is_banned}
-use Rattle.lgm_store.proofs.DecisionLaws.{node-admitted}
+use Rattle.lgm_store.proofs.Verdicts.{node-admitted}
 use Rattle.lgm_store.proofs.Lists.{lookup-node}
 use Rattle.lgm_store.proofs.StoredUpdateLaws.{node-kept, node-rows}
 use Rattle.lgm_store.proofs.map.Opened.{opened}
@@ -26,9 +25,9 @@ allowed c = ap (is_banned c.args.self.now.banned) (sym (own c)) ∙ sym c.banned
 
 -- it is admitted if it is newer
 admitted : (c : In_ok-put_newer) (added : Bool) → c.in_ok-put_newer.field-0 ≡ added
-    → is_ok (node_verdict (is_banned c.args.self.now.banned (point_of c.args.row.now))
+    → is_ok (node_admission (is_banned c.args.self.now.banned (point_of c.args.row.now))
     (ends_channel c.args.self.now.channels (point_of c.args.row.now))
-    (node_of c.args.self.now.nodes (point_of c.args.row.now)) c.args.row.now.message.timestamp) ≡ added
+    (node_of c.args.self.now.nodes (point_of c.args.row.now)) c.args.row.now) ≡ added
 admitted c added tested =
     let parts = opened c.deref_mut.ensures.value c.self.invariant c.self.view_is in
     let stored =
