@@ -4,7 +4,6 @@ pub mod RangeLaws
 pub mod Lengths
 pub mod AskedLaws
 pub mod Ids
-pub mod MessageSetLaws
 pub mod CoverLaws
 pub mod PairLaws
 pub mod SentLaws

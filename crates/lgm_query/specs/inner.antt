@@ -2,5 +2,4 @@
 pub mod ReplyMessage
 pub mod Sent
 pub mod SentWith
-pub mod MessageSet
 pub mod Pairs

@@ -23,10 +23,10 @@ mod sent_with;
 mod touched_keys;
 
 pub use backlog_iter::Backlog;
-pub use filter::{Filter, news};
+pub use filter::Filter;
 pub use ids_reply::answer_ids;
 pub use laws::replies_cover_range;
-pub use map_diff::MapDiff;
+pub use map_diff::{MapDiff, news};
 pub use news_iter::News;
 pub use range_reply::answer_range;
 pub use reply::{Replies, ReplyMessage, backlog};

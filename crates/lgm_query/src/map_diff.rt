@@ -3,16 +3,17 @@
 ghost use Rattle.std.specs.Prelude.{◌≡◌, map, IfOk};
 ghost use Rattle.std.specs.List.{flat_map};
 ghost use Rattle.lgm_store.specs.Keys.{id_of, point_of};
-ghost use Rattle.lgm_query.specs.declared.filter.Filter.{Filter};
+ghost use Rattle.lgm_query.specs.declared.filter.Filter.{Filter as AnyFilter};
 ghost use Rattle.lgm_query.specs.Backlog.{news};
 ghost use Rattle.lgm_query.specs.KeyNews.{news_of_channel, news_of_node};
 ghost use Rattle.lgm_query.specs.ComesOf.{ComesOf};
 ghost use Rattle.lgm_query.specs.MapDiff.{TwoMaps};
-ghost use Rattle.lgm_query.specs.inner.Pairs.{news_of_channel_pair, news_of_node_pair, news_of_pairs};
+ghost use Rattle.lgm_query.specs.inner.Pairs.{IsAskedFor, news_of_channel_pair, news_of_node_pair, news_of_pairs};
 
 use crate::filter::Filter;
 use crate::news_iter::News;
 use crate::pairs::{ChannelPair, NodePair};
+use crate::reply::{Replies, ReplyMessage};
 use crate::touched_keys::TouchedKeys;
 use lgm_gossip::{Point, Scid};
 use lgm_store::Map;
@@ -37,7 +38,7 @@ impl<'a> Model for MapDiff<'a> {
 
     ghost view = { λ d. record { before = d.before.now; after = d.after.now } };
 
-    ghost invariant = { λ d. (f : Filter)
+    ghost invariant = { λ d. (f : AnyFilter)
         → news_of_pairs f d.channels.items d.nodes.items ≡ news d.before.now d.after.now f };
 }
 
@@ -86,8 +87,8 @@ impl<'a> MapDiff<'a> {
         Ok(MapDiff {
             before,
             after,
-            channels: all_channel_pairs(alloc, before, after)?,
-            nodes: all_node_pairs(alloc, before, after)?,
+            channels: all_channel_pairs(alloc, before, after, None)?,
+            nodes: all_node_pairs(alloc, before, after, None)?,
         })
     }
 
@@ -108,7 +109,7 @@ fn channel_pairs<'a>(
     after: &'a Map,
     scids: &BTreeSet<Scid>,
 ) -> Result<Vec<ChannelPair<'a>>, AllocError>
-    ensures { IfOk result (λ pairs. (f : Filter)
+    ensures { IfOk result (λ pairs. (f : AnyFilter)
         → flat_map (news_of_channel_pair f) pairs.items
         ≡ flat_map (news_of_channel f before.now after.now) scids.now.keys) }
 {
@@ -128,7 +129,7 @@ fn node_pairs<'a>(
     after: &'a Map,
     nodes: &BTreeSet<Point>,
 ) -> Result<Vec<NodePair<'a>>, AllocError>
-    ensures { IfOk result (λ pairs. (f : Filter)
+    ensures { IfOk result (λ pairs. (f : AnyFilter)
         → flat_map (news_of_node_pair f) pairs.items
         ≡ flat_map (news_of_node f before.now after.now) nodes.now.keys) }
 {
@@ -141,41 +142,71 @@ fn node_pairs<'a>(
     Ok(pairs)
 }
 
-/// The rows of both maps for each channel of the later one.
+/// The rows of both maps for each channel of the later one; if only one filter is asked for, those of which something passes it.
 #[tactic(auto, using(crate::proofs::PairLaws::one_more_pair))]
 fn all_channel_pairs<'a>(
     alloc: Global,
     before: &'a Map,
     after: &'a Map,
+    only: Option<Filter>,
 ) -> Result<Vec<ChannelPair<'a>>, AllocError>
-    ensures { IfOk result (λ pairs. (f : Filter)
+    ensures { IfOk result (λ pairs. (f : AnyFilter) → IsAskedFor only f
         → flat_map (news_of_channel_pair f) pairs.items
         ≡ flat_map (news_of_channel f before.now after.now) (map id_of after.now.channels)) }
 {
     let mut pairs = Vec::new(alloc);
     for stored in after.channels() {
-        if let Some(pair) = ChannelPair::at(before, after, stored.scid()) {
+        if let Some(pair) = ChannelPair::passing(before, after, stored.scid(), only) {
             pairs.push(pair)?;
         }
     }
     Ok(pairs)
 }
 
-/// The rows of both maps for each node of the later one.
+/// The rows of both maps for each node of the later one; if only one filter is asked for, those of which something passes it.
 fn all_node_pairs<'a>(
     alloc: Global,
     before: &'a Map,
     after: &'a Map,
+    only: Option<Filter>,
 ) -> Result<Vec<NodePair<'a>>, AllocError>
-    ensures { IfOk result (λ pairs. (f : Filter)
+    ensures { IfOk result (λ pairs. (f : AnyFilter) → IsAskedFor only f
         → flat_map (news_of_node_pair f) pairs.items
         ≡ flat_map (news_of_node f before.now after.now) (map point_of after.now.nodes)) }
 {
     let mut pairs = Vec::new(alloc);
     for row in after.nodes() {
-        if let Some(pair) = NodePair::at(before, after, &row.node()) {
+        if let Some(pair) = NodePair::passing(before, after, &row.node(), only) {
             pairs.push(pair)?;
         }
     }
     Ok(pairs)
+}
+
+/// The messages that pass a filter in a later map and didn't in an earlier one, in the order of [`backlog`](crate::backlog).
+///
+/// Messages are compared by their bytes. So a channel announcement is news once an update of the channel begins to
+/// pass, and a message that was removed and added again between the two maps isn't.
+///
+/// Time is that of the later map, with two searches for each channel and node of which something passes, whose messages are
+/// read. The only error is out of memory.
+pub fn news<'a>(
+    alloc: Global,
+    before: &'a Map,
+    after: &'a Map,
+    filter: &Filter,
+) -> Result<Replies<'a>, AllocError>
+    ensures { IfOk result (λ replies. replies ≡ news before.now after.now filter.now) }
+{
+    before.rows_are_lawful();
+    after.rows_are_lawful();
+    before.bytes_encode_rows();
+    after.bytes_encode_rows();
+    let channels = all_channel_pairs(alloc, before, after, Some(*filter))?;
+    let nodes = all_node_pairs(alloc, before, after, Some(*filter))?;
+    let mut messages = Vec::new(alloc);
+    for message in News::of(filter, &channels, &nodes) {
+        messages.push(ReplyMessage::borrowed(message))?;
+    }
+    Ok(Replies::from_vec(messages))
 }

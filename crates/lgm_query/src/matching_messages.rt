@@ -1,6 +1,6 @@
 //! The messages of one channel or node that pass a filter.
 
-ghost use Rattle.std.specs.Prelude.{◌≡◌, ◌||◌, List, ℕ, [], ◌++◌};
+ghost use Rattle.std.specs.Prelude.{◌≡◌, ◌||◌, List, ℕ, [], ◌++◌, true};
 ghost use Rattle.std.specs.Bool.{then_some};
 ghost use Rattle.std.specs.Iterator.{YieldsFirstRef, item_count};
 ghost use Rattle.std.specs.Option.{option_copied, option_to_list, is_some};
@@ -42,6 +42,13 @@ impl<'a> MatchingMessages<'a> {
             first: None,
             second: None,
         }
+    }
+
+    /// Whether there is none.
+    pub(crate) fn is_empty(&self) -> bool
+        ensures { result ≡ true → self.now ≡ [] }
+    {
+        self.announcement.is_none() && self.first.is_none() && self.second.is_none()
     }
 
     /// The messages of a channel: its announcement, if an update of it passes, and then the updates that pass.

@@ -1,5 +1,5 @@
 -- The news of the rows of two maps for channels and nodes.
-use Rattle.std.specs.Prelude.{ℕ, List, [], ◌++◌}
+use Rattle.std.specs.Prelude.{◌≡◌, ℕ, List, [], ◌++◌, Option, Some, None}
 use Rattle.std.specs.List.{flat_map}
 use Rattle.std.specs.Option.{option_copied, option_map_or}
 use Rattle.lgm_query.specs.declared.filter.Filter.{Filter}
@@ -7,6 +7,11 @@ use Rattle.lgm_query.specs.declared.pairs.ChannelPair.{ChannelPair}
 use Rattle.lgm_query.specs.declared.pairs.NodePair.{NodePair}
 use Rattle.lgm_query.specs.Backlog.{passing_channel, passing_node}
 use Rattle.lgm_query.specs.KeyNews.{not_among}
+
+-- the news for this filter are asked for: for each, or for only one
+abbrev pub IsAskedFor : Option Filter → Filter → Type 0
+IsAskedFor None f = Unit {0}
+IsAskedFor (Some only) f = f ≡ only
 
 -- what passes of the later rows and didn't of the earlier ones
 abbrev pub news_of_channel_pair : Filter → ChannelPair → List (List ℕ)

@@ -15,20 +15,20 @@ ids_stored rows [] = refl
 ids_stored rows (row ∷ channels) = ap (λ (ids : List ℕ). id_of row ∷ ids) (ids_stored rows channels)
 
 pub loop-stored-init : goal.loop-stored-init
-loop-stored-init c = λ f. rw (c.new-pairs.ensures.items, c.into_iter-stored-iterator.ensures.into_iter_gives, c.channels-stored-items.ensures)
+loop-stored-init c = λ f asked. rw (c.new-pairs.ensures.items, c.into_iter-stored-iterator.ensures.into_iter_gives, c.channels-stored-items.ensures)
     (ap (flat_map (news_of_channel f c.args.before.now c.args.after.now)) (ids_stored c.args.after.now c.args.after.now.channels))
 
 pub loop-stored-preserved-in-Continue-1 : goal.loop-stored-preserved-in-Continue-1
-loop-stored-preserved-in-Continue-1 c = λ f.
+loop-stored-preserved-in-Continue-1 c = λ f asked.
     rw c.in_ok-push.ensures.items
-    (one_more (news_of_channel_pair f) (news_of_channel f c.args.before.now c.args.after.now) c.loop-stored.pairs.items c.in-Some-at.pair
+    (one_more (news_of_channel_pair f) (news_of_channel f c.args.before.now c.args.after.now) c.loop-stored.pairs.items c.in-Some-passing.pair
     (id_of c.in-Some.stored.now.channel) (map (λ stored. id_of stored.channel) c.next.new.self)
-    (rw c.scid.ensures at c.in-Some-at.ensures f))
-    ∙ rw c.in-Some.ensures.steps at c.loop-stored.invariant f
+    (rw c.scid.ensures at c.in-Some-passing.ensures f asked))
+    ∙ rw c.in-Some.ensures.steps at c.loop-stored.invariant f asked
 
 pub loop-stored-preserved : goal.loop-stored-preserved
-loop-stored-preserved c = λ f.
+loop-stored-preserved c = λ f asked.
     none_more (news_of_channel_pair f) (news_of_channel f c.args.before.now c.args.after.now) c.loop-stored.pairs.items
     (id_of c.in-Some.stored.now.channel) (map (λ stored. id_of stored.channel) c.next.new.self)
-    (rw c.scid.ensures at c.in_default.ensures f)
-    ∙ rw c.in-Some.ensures.steps at c.loop-stored.invariant f
+    (rw c.scid.ensures at c.in_default.ensures f asked)
+    ∙ rw c.in-Some.ensures.steps at c.loop-stored.invariant f asked
