@@ -14,7 +14,6 @@ use Rattle.lgm_graph.specs.declared.edge.Edge.{Edge}
 use Rattle.lgm_graph.specs.declared.route.Hop.{Hop}
 use Rattle.lgm_route.specs.declared.request.Request.{Request}
 use Rattle.lgm_route.specs.declared.limits.RouteLimits.{RouteLimits}
-use Rattle.lgm_route.specs.declared.limits.SearchBudget.{SearchBudget}
 use Rattle.lgm_route.specs.declared.fault.RouteFault.{RouteFault}
 use Rattle.lgm_route.specs.declared.fault.RouteFault.TheVariants.{NoRoute}
 use Rattle.lgm_route.specs.declared.found.SearchFault.{SearchFault}
@@ -27,7 +26,7 @@ use Rattle.lgm_route.specs.inner.Numbered as walks
 use Rattle.lgm_route.specs.Odds.{penalty_by}
 use Rattle.lgm_route.specs.declared.preferences.Preferences.{Preferences}
 use Rattle.lgm_route.specs.inner.Numbered.{Ask, Terms, known_from}
-use Rattle.lgm_route.specs.inner.Best.{AreAlike, IsFree, free, edges_in, ask_of, is_timely, hops_within, IsWalkFound}
+use Rattle.lgm_route.specs.inner.Best.{AreAlike, IsFree, edges_in, ask_of, is_timely, hops_within, IsWalkFound}
 use Rattle.lgm_route.proofs.PointWalkLaws.{usable_over, within_over, least_over, none_over, free_found, within_none}
 use Rattle.lgm_route.proofs.HopLaws.{length_hops}
 use Rattle.lgm_route.proofs.PreferredLaws.{true_within, within_true}
@@ -65,11 +64,11 @@ module _ (graph : Graph) (listed : AreListed graph) (request : Request) (payer p
       (refl, none_over graph listed request payer payee payer_is payee_is limits terms none)
 
   -- a search that found no walk
-  pub walk_fault : (budget : SearchBudget) (fault : SearchFault) → IsWalkFound (edges graph) ask budget (Err fault)
+  pub walk_fault : (fault : SearchFault) → IsWalkFound (edges graph) ask (Err fault)
       → IsRouteBy (IsPreferredAnswer penalty limits (point_edges graph) request) limits (point_edges graph) request (Err fault)
-  walk_fault budget Undecided is = allowed
-  walk_fault budget (Fault fault) (inl e) = inl e
-  walk_fault budget (Fault fault) (inr none) =
+  walk_fault Undecided is = allowed
+  walk_fault (Fault fault) (inl e) = inl e
+  walk_fault (Fault fault) (inr none) =
       inr (subst (λ f. IsPreferredAnswer penalty limits (point_edges graph) request (Err f)) (sym none.0) (no_route none.1))
 
 -- the penalties of what a payer prefers
@@ -82,15 +81,6 @@ pub weights_alike : (graph : Graph) (preferences : Preferences) (known : Entries
 weights_alike graph preferences known edge numbered amount =
     ap (λ (o : Option Point). penalty_by preferences.failure_msat preferences.hop_msat (known_from known edge.scid o) edge.max amount)
     (slice_get-get_or graph.points edge.from no_point numbered)
-
--- a fault before a search doesn't depend on penalties
-pub any_fault : (penalty : PointEdge → ℕ → ℕ) (limits : RouteLimits) (edges : List PointEdge) (request : Request) (fault : RouteFault)
-    → IsPreferredAnswer free limits edges request (Err fault) → IsPreferredAnswer penalty limits edges request (Err fault)
-any_fault penalty limits edges request fault is = by (refusal request) is
-  where
-    by : (o : Option RouteFault) → IsPreferredBy o free limits edges request (Err fault) → IsPreferredBy o penalty limits edges request (Err fault)
-    by (Some other) is = is
-    by None is = is
 
 -- ---- a route within the limits
 

@@ -23,7 +23,7 @@ use Rattle.lgm_route.specs.inner.Best.{AreAlike, AreNumbered, IsFree, free, ask_
 use Rattle.lgm_route.specs.Answers.{refusal, IsAnswer, IsAnswerBy, IsFoundOver}
 use Rattle.lgm_route.specs.declared.limits.RouteLimits.{RouteLimits}
 use Rattle.lgm_route.specs.Preferred as preferred
-use Rattle.lgm_route.specs.Preferred.{IsInTime, IsWithin, no_limits, IsLeastBy, IsFoundBy, IsPreferred, IsPreferredBy, IsPreferredAnswer}
+use Rattle.lgm_route.specs.Preferred.{IsInTime, IsWithin, no_limits, IsLeastBy, IsFoundBy, IsPreferred}
 use Rattle.lgm_graph.specs.declared.route.Hop.{Hop}
 use Rattle.lgm_route.specs.declared.fault.RouteFault.{RouteFault}
 use Rattle.std.specs.Prelude.{Result, Ok, Err}
@@ -193,15 +193,6 @@ free_answer edges request found allowed (inl e) = inl e
 free_answer edges request found allowed (inr is) =
     inr (subst (λ o. IsAnswerBy o edges request found) (sym allowed)
     (found_free free (λ edge amount. refl) edges request found is))
-
--- a fault before a search
-pub free_fault : (edges : List PointEdge) (request : Request) (fault : RouteFault)
-    → IsPreferredAnswer free no_limits edges request (Err fault) → IsAnswer edges request (Err fault)
-free_fault edges request fault is = by (refusal request) is
-  where
-    by : (o : Option RouteFault) → IsPreferredBy o free no_limits edges request (Err fault) → IsAnswerBy o edges request (Err fault)
-    by (Some other) is = is
-    by None is = found_free free (λ edge amount. refl) edges request (Err fault) is
 
 -- ---- walks
 

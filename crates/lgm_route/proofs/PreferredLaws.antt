@@ -4,7 +4,7 @@ use Rattle.std.proofs.lemmas.Bool.Decides.{nat_tests}
 use Rattle.std.specs.Prelude.{nat_le, nat_eq, ◌&&◌, Option, Some, None, Result, Ok, Err}
 use Rattle.std.specs.List.{fold}
 use Rattle.std.specs.List.Sorted.{IsPermutation}
-use Rattle.std.proofs.Math.Nat.{min-le_left}
+use Rattle.std.proofs.Math.Nat.{min-le_left, min-le_right}
 use Rattle.std.proofs.lemmas.Bool.{and_parts}
 use Rattle.lgm_graph.specs.Edges.{PointEdge, AreKeyed}
 use Rattle.lgm_graph.specs.Estimates.{Entries}
@@ -236,6 +236,29 @@ beyond_reordered limits edges others request order is = (
   where
     same : HaveSame edges others
     same = same-permuted edges others order
+
+-- a budget that can run out within limits can without
+pub used_widened : (limits : RouteLimits) (edges : List PointEdge) (request : Request) (budget : SearchBudget)
+    → IsUsedUp limits edges request budget → IsUsedUp no_limits edges request budget
+used_widened limits edges request budget (inr steps) = inr steps
+used_widened limits edges request budget (inl is) =
+    inl (
+      is.0,
+      record {
+        rests = is.1.rests;
+        many = is.1.many;
+        within = λ i d in_range. wide (is.1.within i d in_range);
+        different = is.1.different;
+      },
+    )
+  where
+    wide : {rest : List PointEdge} → IsRestWithin limits edges request rest → IsRestWithin no_limits edges request rest
+    wide {rest} h = record {
+      node = h.node;
+      joins = h.joins;
+      short = omega (arith, h.short, min-le_right limits.most_hops 20);
+      in_time = tt;
+    }
 
 pub used_reordered : (limits : RouteLimits) (edges others : List PointEdge) (request : Request) (budget : SearchBudget)
     → IsPermutation others edges → IsUsedUp limits edges request budget → IsUsedUp limits others request budget

@@ -1,18 +1,20 @@
 -- Reasons one after the other, and over the same edges in another order.
 use Rattle.std.proofs.Common.{◌≡◌, ◌⊎◌, ℕ, ◌+◌, ◌<◌, ◌≤◌, List, inl, inr, refl, sym, ap, ◌∙◌, subst, arith, true≢false}
-use Rattle.std.specs.Prelude.{◌==◌, if◌then◌else◌, Option, Some, None, Result, Ok, Err, IfOk}
+use Rattle.std.specs.Prelude.{◌==◌, if◌then◌else◌, Option, Some, None, Result, Ok, Err, IfOk, IfErr}
 use Rattle.std.specs.List.Sorted.{IsPermutation}
 use Rattle.lgm_graph.specs.Edges.{PointEdge}
 use Rattle.lgm_route.specs.declared.request.Request.{Request}
 use Rattle.lgm_route.specs.declared.limits.RouteLimits.{RouteLimits}
+use Rattle.lgm_route.specs.declared.limits.SearchBudget.{SearchBudget}
 use Rattle.lgm_route.specs.declared.sought.Sought.{Sought}
 use Rattle.lgm_route.specs.declared.found.SearchFault.{SearchFault}
 use Rattle.lgm_route.specs.declared.no_route.NoRouteReason.{NoRouteReason}
 use Rattle.lgm_route.specs.declared.no_route.NoRouteReason.TheVariants as reasons
 use Rattle.lgm_route.specs.Preferred.{no_limits}
 use Rattle.lgm_route.specs.Reasons.{from_payer, to_payee, amount_from_payer, amount_to_payee, delay_alone, hops_alone}
-use Rattle.lgm_route.specs.Reasons.{reason_number, NoneIsSought, SomeIsSought, HasRoute, HasNone, Holds, NoneBefore, IsExplained}
+use Rattle.lgm_route.specs.Reasons.{reason_number, NoneIsSought, SomeIsSought, HasRoute, HasNone, Holds, NoneBefore, IsExplained, IsUnexplained}
 use Rattle.lgm_route.proofs.ChoiceLaws.{HaveSame, same-permuted, usable_over}
+use Rattle.lgm_route.proofs.PreferredLaws.{used_reordered}
 
 -- ---- reasons by their numbers
 
@@ -121,3 +123,13 @@ pub found_over : (edges others : List PointEdge) (request : Request) (result : R
     → IfOk result (λ found. IsExplained found limits others request)
 found_over edges others request (Ok found) limits order is = explained_over edges others request found limits order is
 found_over edges others request (Err fault) limits order is = tt
+
+-- and so is why nothing is found
+pub unexplained_over : (edges others : List PointEdge) (request : Request) (result : Result (Option NoRouteReason) SearchFault)
+    (budget : SearchBudget) → IsPermutation others edges → IfErr result (IsUnexplained edges request budget)
+    → IfErr result (IsUnexplained others request budget)
+unexplained_over edges others request (Ok found) budget order is = tt
+unexplained_over edges others request (Err fault) budget order (inl none) = inl none
+unexplained_over edges others request (Err fault) budget order (inr (inl is)) =
+    inr (inl (is.0, used_reordered no_limits edges others request budget order is.1))
+unexplained_over edges others request (Err fault) budget order (inr (inr refused)) = inr (inr refused)

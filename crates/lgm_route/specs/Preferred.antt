@@ -138,10 +138,6 @@ IsCutShort (Ok found) = found.is_best ≡ false
 IsCutShort (Err Undecided) = Unit {0}
 IsCutShort (Err (Fault fault)) = ⊥
 
--- there is a maximum of labels, or of steps
-abbrev pub IsBounded : SearchBudget → Type 0
-IsBounded budget = (budget.most_labels < 2 ^ 64 - 1) ⊎ (budget.most_steps < 2 ^ 64 - 1)
-
 -- the blocks of these edges are no more than the limit, if there is one
 abbrev pub IsDueIn : Option ℕ → List PointEdge → Type 0
 IsDueIn None rest = Unit {0}

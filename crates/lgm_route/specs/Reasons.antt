@@ -14,7 +14,7 @@ use Rattle.lgm_route.specs.declared.no_route.NoRouteReason.{NoRouteReason}
 use Rattle.lgm_route.specs.declared.no_route.NoRouteReason.TheVariants as reasons
 use Rattle.lgm_route.specs.declared.sought.Sought.{Sought}
 use Rattle.lgm_route.specs.Routes.{IsUsable}
-use Rattle.lgm_route.specs.Preferred.{IsWithin, IsBounded, no_limits}
+use Rattle.lgm_route.specs.Preferred.{IsWithin, IsUsedUp, no_limits}
 use Rattle.lgm_route.specs.Answers.{refusal}
 
 -- the number, and the word
@@ -119,7 +119,7 @@ IsExplained None limits edges request = HasRoute limits edges request
 IsExplained (Some reason) limits edges request = IsReason reason limits edges request
 
 -- why none is found: memory or the budget ran out, or the payment is refused whatever the edges are
-abbrev pub IsUnexplained : Request → SearchBudget → SearchFault → Type 0
-IsUnexplained request budget fault =
-    (fault ≡ Fault NoMemory) ⊎ ((fault ≡ Undecided) × IsBounded budget)
+abbrev pub IsUnexplained : List PointEdge → Request → SearchBudget → SearchFault → Type 0
+IsUnexplained edges request budget fault =
+    (fault ≡ Fault NoMemory) ⊎ ((fault ≡ Undecided) × IsUsedUp no_limits edges request budget)
     ⊎ ((reason : RouteFault) × (refusal request ≡ Some reason) × (fault ≡ Fault reason))

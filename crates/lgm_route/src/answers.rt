@@ -8,7 +8,7 @@ ghost use Rattle.lgm_route.specs.Answers.{refusal};
 ghost use Rattle.lgm_route.specs.Choice.{answer_of};
 ghost use Rattle.lgm_route.specs.declared.fault.RouteFault.{RouteFault};
 
-use crate::best_route::{least, least_in, least_pooled, least_pooled_in};
+use crate::best_route::{best_over, best_over_pooled, least, least_pooled};
 use crate::fault::RouteFault;
 use crate::request::Request;
 use lgm_graph::{Overlay, OverlayView, Route, View, overlays_are_lawful};
@@ -70,11 +70,9 @@ pub fn answer_over(
 {
     map.rows_are_lawful();
     overlays_are_lawful();
-    if let Some(fault) = request.refusal() {
-        return Err(fault);
-    }
+    let request = request.lawful()?;
     let over = OverlayView::of(alloc, view, overlay)?;
-    least_in(alloc, &over, request)
+    best_over(alloc, &over, &request)
 }
 
 /// The same answer, found by a pool of workers as in [`least_pooled`].
@@ -93,9 +91,7 @@ pub fn answer_over_chunked<Rt: Threads + Sync, G: Gate>(
 {
     map.rows_are_lawful();
     overlays_are_lawful();
-    if let Some(fault) = request.refusal() {
-        return Err(fault);
-    }
+    let request = request.lawful()?;
     let over = OverlayView::of(pool.alloc, view, overlay)?;
-    least_pooled_in(pool, &over, request)
+    best_over_pooled(pool, &over, &request)
 }

@@ -16,7 +16,7 @@ use crate::hops::hops;
 use crate::limits::RouteLimits;
 use crate::numbering::numbered;
 use crate::penalties::{NoPenalties, Penalties};
-use crate::request::{NumberedRequest, Request};
+use crate::request::{LawfulRequest, NumberedRequest, Request};
 use crate::walks::{best_walk, best_walk_chunked};
 use lgm_graph::{Edge, Route, RoutingGraph, View};
 use lgm_par::{Gate, Pool};
@@ -27,11 +27,10 @@ use std::thread::Threads;
 pub(crate) fn route_of<V: RoutingGraph, P: Penalties>(
     alloc: Global,
     view: &V,
-    request: &Request,
+    request: &LawfulRequest,
     numbered: &NumberedRequest<P>,
     walk: &[Edge],
 ) -> Result<Route, AllocError>
-    requires expiry { request.now.expiry ≤ 498000000 }
     requires amount { numbered.now.amount ≡ request.now.amount }
     requires hops { numbered.now.most_hops ≤ 20 }
     requires usable { IsUsable (edges (V.graph view.now)) (asked (P.terms numbered.now.penalties) numbered.now) walk.now }
@@ -40,7 +39,7 @@ pub(crate) fn route_of<V: RoutingGraph, P: Penalties>(
 {
     // The contract of `nodes` says that the nodes of edges are numbered.
     let _nodes = view.nodes();
-    let hops = hops(alloc, view, request, walk)?;
+    let hops = hops(alloc, view, request.get(), walk)?;
     Ok(Route::from_vec(hops))
 }
 
@@ -48,12 +47,11 @@ pub(crate) fn route_of<V: RoutingGraph, P: Penalties>(
 fn route_over<V: RoutingGraph, P: Penalties>(
     alloc: Global,
     view: &V,
-    request: &Request,
+    request: &LawfulRequest,
     limits: &RouteLimits,
     numbered: &NumberedRequest<P>,
     walk: Option<Vec<Edge>>,
 ) -> Result<Route, RouteFault>
-    requires expiry { request.now.expiry ≤ 498000000 }
     requires numbered { IsNumberingOf (V.graph view.now) request.now limits.now numbered.now.penalties (Some numbered.now) }
     requires walk { IsBestWalk (edges (V.graph view.now)) (asked (P.terms numbered.now.penalties) numbered.now)
         (option_map (λ walk. walk.items) walk) }
@@ -69,6 +67,41 @@ fn route_over<V: RoutingGraph, P: Penalties>(
             Ok(route)
         }
     }
+}
+
+/// The best route of a payment over the edges of a graph.
+pub(crate) fn best_over<V: RoutingGraph>(
+    alloc: Global,
+    graph: &V,
+    request: &LawfulRequest,
+) -> Result<Route, RouteFault>
+    ensures { (result ≡ Err RouteFault.NoMemory) ⊎ IsAnswer (point_edges (V.graph graph.now)) request.now result }
+{
+    let limits = RouteLimits::none();
+    let Some(numbered) = numbered(graph, request, &limits, NoPenalties) else {
+        return Err(RouteFault::NoRoute);
+    };
+    let walk = best_walk(alloc, graph, &numbered)?;
+    route_over(alloc, graph, request, &limits, &numbered, walk)
+}
+
+/// The same route, found by a pool of workers as in [`least_pooled`].
+pub(crate) fn best_over_pooled<Rt: Threads + Sync, G: Gate, V: RoutingGraph + Sync>(
+    pool: &Pool<'_, Rt, G>,
+    graph: &V,
+    request: &LawfulRequest,
+) -> Result<Route, RouteFault>
+    ensures { (result ≡ Err RouteFault.NoMemory) ⊎ IsAnswer (point_edges (V.graph graph.now)) request.now result }
+{
+    if pool.workers == 1 {
+        return best_over(pool.alloc, graph, request);
+    }
+    let limits = RouteLimits::none();
+    let Some(numbered) = numbered(graph, request, &limits, NoPenalties) else {
+        return Err(RouteFault::NoRoute);
+    };
+    let walk = best_walk_chunked(pool, graph, &numbered)?;
+    route_over(pool.alloc, graph, request, &limits, &numbered, walk)
 }
 
 /// The best route of a payment over the edges of a view: the one that sends least among all usable walks of 1 to 20
@@ -101,9 +134,7 @@ pub fn least_in<V: RoutingGraph>(
     ensures refused { (fault : RouteFault) → refusal request.now ≡ Some fault → result ≡ Err fault }
     ensures answer { (result ≡ Err RouteFault.NoMemory) ⊎ IsAnswer (point_edges (V.graph graph.now)) request.now result }
 {
-    let numbered = numbered(graph, request, &RouteLimits::none(), NoPenalties)?;
-    let walk = best_walk(alloc, graph, &numbered)?;
-    route_over(alloc, graph, request, &RouteLimits::none(), &numbered, walk)
+    best_over(alloc, graph, &request.lawful()?)
 }
 
 /// The same route as [`least`], found by a pool of workers, whatever its gate does.
@@ -139,19 +170,7 @@ pub fn least_pooled_in<Rt: Threads + Sync, G: Gate, V: RoutingGraph + Sync>(
     ensures refused { (fault : RouteFault) → refusal request.now ≡ Some fault → result ≡ Err fault }
     ensures answer { (result ≡ Err RouteFault.NoMemory) ⊎ IsAnswer (point_edges (V.graph graph.now)) request.now result }
 {
-    if pool.workers == 1 {
-        return least_in(pool.alloc, graph, request);
-    }
-    let numbered = numbered(graph, request, &RouteLimits::none(), NoPenalties)?;
-    let walk = best_walk_chunked(pool, graph, &numbered)?;
-    route_over(
-        pool.alloc,
-        graph,
-        request,
-        &RouteLimits::none(),
-        &numbered,
-        walk,
-    )
+    best_over_pooled(pool, graph, &request.lawful()?)
 }
 
 /// The same route as [`least`], found by several workers, for any number of them from 1 to 64, and

@@ -1,9 +1,8 @@
 //! The reason why a payment has no route within limits.
 
-ghost use Rattle.std.specs.Prelude.{◌≡◌, ◌+◌, ◌*◌, ◌^◌, ◌<◌, Some, None, Err, length, true, false, IfOk, IfErr, MatchOption};
+ghost use Rattle.std.specs.Prelude.{◌≡◌, ◌+◌, ◌*◌, ◌^◌, ◌<◌, length, true, false, IfOk, IfErr, MatchOption};
 ghost use Rattle.lgm_graph.specs.Graph.{IsGraphOf, point_edges};
 ghost use Rattle.lgm_graph.specs.Overlay.{overlaid_edges};
-ghost use Rattle.lgm_route.specs.Answers.{refusal};
 ghost use Rattle.lgm_route.specs.Reasons.{HasRoute, HasNone, IsExplained, IsReason, IsUnexplained, NoneBefore};
 ghost use Rattle.lgm_route.specs.Reasons.{delay_alone, hops_alone};
 ghost use Rattle.lgm_route.specs.Preferred.{no_preferences};
@@ -15,8 +14,8 @@ use crate::found::SearchFault;
 use crate::limits::{RouteLimits, SearchBudget};
 use crate::no_route::NoRouteReason;
 use crate::preferences::Preferences;
-use crate::preferred::preferred_in;
-use crate::request::Request;
+use crate::preferred::preferred_over;
+use crate::request::{LawfulRequest, Request};
 use crate::sought::{Sought, any_sought};
 use lgm_graph::{Estimates, Overlay, OverlayView, RoutingGraph, View, overlays_are_lawful};
 use lgm_store::Map;
@@ -26,17 +25,18 @@ use std::alloc::Global;
 fn has_route<V: RoutingGraph>(
     alloc: Global,
     graph: &V,
-    request: &Request,
+    request: &LawfulRequest,
     limits: &RouteLimits,
     budget: &SearchBudget,
 ) -> Result<bool, SearchFault>
-    requires { refusal request.now ≡ None }
     ensures some { IfOk result (λ found. found ≡ true → HasRoute limits.now (point_edges (V.graph graph.now)) request.now) }
     ensures none { IfOk result (λ found. found ≡ false → HasNone limits.now (point_edges (V.graph graph.now)) request.now) }
-    ensures unknown { IfErr result (λ fault. IsUnexplained request.now budget.now fault) }
+    ensures unknown { IfErr result (λ fault. IsUnexplained (point_edges (V.graph graph.now)) request.now budget.now fault) }
 {
+    // The contract of `get` says that the payment isn't refused.
+    let _request = request.get();
     let nothing = Estimates::new(alloc);
-    match preferred_in(
+    match preferred_over(
         alloc,
         graph,
         &Preferences::none(),
@@ -86,14 +86,13 @@ fn reason_at_ends<V: RoutingGraph>(graph: &V, request: &Request) -> Option<NoRou
 fn reason_between<V: RoutingGraph>(
     alloc: Global,
     graph: &V,
-    request: &Request,
+    request: &LawfulRequest,
     limits: &RouteLimits,
     budget: &SearchBudget,
 ) -> Result<Option<NoRouteReason>, SearchFault>
-    requires allowed { refusal request.now ≡ None }
-    requires ends { NoneBefore 45 limits.now (point_edges (V.graph graph.now)) request.now }
+    requires { NoneBefore 45 limits.now (point_edges (V.graph graph.now)) request.now }
     ensures reason { IfOk result (λ found. IsExplained found limits.now (point_edges (V.graph graph.now)) request.now) }
-    ensures unknown { IfErr result (λ fault. IsUnexplained request.now budget.now fault) }
+    ensures unknown { IfErr result (λ fault. IsUnexplained (point_edges (V.graph graph.now)) request.now budget.now fault) }
 {
     if !has_route(alloc, graph, request, &RouteLimits::none(), budget)? {
         return Ok(Some(NoRouteReason::Unconnected));
@@ -110,6 +109,23 @@ fn reason_between<V: RoutingGraph>(
     Ok(None)
 }
 
+/// The reason, if there is one: at the ends, or between them.
+fn reason_over<V: RoutingGraph>(
+    alloc: Global,
+    graph: &V,
+    request: &LawfulRequest,
+    limits: &RouteLimits,
+    budget: &SearchBudget,
+) -> Result<Option<NoRouteReason>, SearchFault>
+    ensures reason { IfOk result (λ found. IsExplained found limits.now (point_edges (V.graph graph.now)) request.now) }
+    ensures unknown { IfErr result (λ fault. IsUnexplained (point_edges (V.graph graph.now)) request.now budget.now fault) }
+{
+    match reason_at_ends(graph, request.get()) {
+        Some(reason) => Ok(Some(reason)),
+        None => reason_between(alloc, graph, request, limits, budget),
+    }
+}
+
 /// Why a payment has no route within limits over the edges of a graph: the first reason that holds. None if it has a route.
 ///
 /// Looks at all edges, and searches up to four times, each time within the budget. Where it runs out before a route is found,
@@ -122,15 +138,9 @@ pub fn no_route_reason_in<V: RoutingGraph>(
     budget: &SearchBudget,
 ) -> Result<Option<NoRouteReason>, SearchFault>
     ensures reason { IfOk result (λ found. IsExplained found limits.now (point_edges (V.graph graph.now)) request.now) }
-    ensures unknown { IfErr result (λ fault. IsUnexplained request.now budget.now fault) }
+    ensures unknown { IfErr result (λ fault. IsUnexplained (point_edges (V.graph graph.now)) request.now budget.now fault) }
 {
-    if let Some(fault) = request.refusal() {
-        return Err(SearchFault::Fault(fault));
-    }
-    match reason_at_ends(graph, request) {
-        Some(reason) => Ok(Some(reason)),
-        None => reason_between(alloc, graph, request, limits, budget),
-    }
+    reason_over(alloc, graph, &request.lawful()?, limits, budget)
 }
 
 /// The same over a map with its view and an overlay.
@@ -147,14 +157,16 @@ pub fn no_route_reason(
     requires few { length view.now.points + 2 * length overlay.now.extra < 2 ^ 32 }
     ensures reason { IfOk result (λ found.
         IsExplained found limits.now (overlaid_edges view.now.known map.now overlay.now) request.now) }
-    ensures unknown { IfErr result (λ fault. IsUnexplained request.now budget.now fault) }
+    ensures unknown { IfErr result (λ fault.
+        IsUnexplained (overlaid_edges view.now.known map.now overlay.now) request.now budget.now fault) }
 {
     map.rows_are_lawful();
     overlays_are_lawful();
+    let request = request.lawful()?;
     if overlay.is_empty() {
         view.shows_the_edges();
-        return no_route_reason_in(alloc, view, request, limits, budget);
+        return reason_over(alloc, view, &request, limits, budget);
     }
     let over = OverlayView::of(alloc, view, overlay)?;
-    no_route_reason_in(alloc, &over, request, limits, budget)
+    reason_over(alloc, &over, &request, limits, budget)
 }

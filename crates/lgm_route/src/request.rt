@@ -1,6 +1,6 @@
 //! Payment requests.
 
-ghost use Rattle.std.specs.Prelude.{◌≡◌, false};
+ghost use Rattle.std.specs.Prelude.{◌≡◌, Some, None, false, IfOk, IfErr};
 ghost use Rattle.lgm_route.specs.Answers.{refusal};
 ghost use Rattle.lgm_route.specs.inner.Numbered.{asked, counted, IsDelayOver};
 ghost use Rattle.lgm_route.specs.inner.Bounding.{MayCarry};
@@ -9,6 +9,7 @@ use crate::fault::RouteFault;
 use crate::penalties::Penalties;
 use lgm_gossip::Point;
 use lgm_graph::Edge;
+use std::marker::Model;
 
 /// The greatest amount of a payment, in msat.
 const MOST_AMOUNT: u64 = 2_100_000_000_000_000_000;
@@ -45,6 +46,46 @@ impl Request {
         } else {
             None
         }
+    }
+
+    /// The payment, unless it is refused whatever the edges are: then the first reason.
+    pub(crate) fn lawful(&self) -> Result<LawfulRequest, RouteFault>
+        ensures same { IfOk result (λ lawful. lawful ≡ self.now) }
+        ensures allowed { IfOk result (λ _. refusal self.now ≡ None) }
+        ensures refused { IfErr result (λ fault. refusal self.now ≡ Some fault) }
+    {
+        match self.refusal() {
+            Some(fault) => Err(fault),
+            None => Ok(LawfulRequest { request: *self }),
+        }
+    }
+}
+
+/// A payment that isn't refused whatever the edges are. Contracts see the [`Request`].
+#[derive(Drop)]
+pub(crate) struct LawfulRequest {
+    request: Request,
+}
+
+impl Model for LawfulRequest {
+    ghost use Rattle.std.specs.Prelude.{◌≡◌, None};
+    ghost use Rattle.lgm_route.specs.declared.request.Request.{Request};
+    ghost use Rattle.lgm_route.specs.Answers.{refusal};
+
+    ghost Value = { Request };
+
+    ghost view = { λ l. l.request };
+
+    ghost invariant = { λ l. refusal l.request ≡ None };
+}
+
+impl LawfulRequest {
+    /// The payment.
+    pub(crate) fn get(&self) -> &Request
+        ensures same { result.now ≡ self.now }
+        ensures allowed { refusal self.now ≡ None }
+    {
+        &self.request
     }
 }
 

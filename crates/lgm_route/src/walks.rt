@@ -64,7 +64,7 @@ pub(crate) fn walk_within<V: RoutingGraph, P: Penalties>(
     budget: &SearchBudget,
 ) -> Result<WalkFound, SearchFault>
     requires { (1 ≤ request.now.most_hops) × (request.now.most_hops ≤ 20) }
-    ensures found { IsWalkFound (edges (V.graph view.now)) (asked (P.terms request.now.penalties) request.now) budget.now result }
+    ensures found { IsWalkFound (edges (V.graph view.now)) (asked (P.terms request.now.penalties) request.now) result }
     ensures used_up { IsCutShort result
         → IsUsedUp (edges (V.graph view.now)) (asked (P.terms request.now.penalties) request.now) budget.now }
 {

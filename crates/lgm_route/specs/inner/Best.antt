@@ -12,7 +12,7 @@ use Rattle.lgm_route.specs.inner.Numbered.{Ask, Terms, penalty_of}
 use Rattle.lgm_route.specs.inner.Numbered.{sent, delay, most_delay, IsRest, IsUsable, IsLeast}
 use Rattle.lgm_graph.specs.Route.{expiry}
 use Rattle.lgm_route.specs.Routes as routes
-use Rattle.lgm_route.specs.Preferred.{IsWithin, IsBounded}
+use Rattle.lgm_route.specs.Preferred.{IsWithin}
 use Rattle.lgm_route.specs.declared.fault.RouteFault.TheVariants.{NoRoute, NoMemory}
 use Rattle.lgm_route.specs.declared.found.SearchFault.{SearchFault}
 use Rattle.lgm_route.specs.declared.found.SearchFault.TheVariants.{Fault, Undecided}
@@ -123,13 +123,13 @@ IsUsedUp edges request budget =
     ((budget.most_labels < 2 ^ 64 - 1) × HaveRests edges request (min budget.most_labels (2 ^ 32)))
     ⊎ (budget.most_steps < 2 ^ 64 - 1)
 
--- what a search within a budget found: a usable walk, the best one unless the budget ran out; or that none is usable
-abbrev pub IsWalkFound : List Edge → Ask → SearchBudget → Result WalkFound SearchFault → Type 0
-IsWalkFound edges request budget (Ok found) =
+-- what a search within a budget found: a usable walk, which may be the best one; or that none is usable
+abbrev pub IsWalkFound : List Edge → Ask → Result WalkFound SearchFault → Type 0
+IsWalkFound edges request (Ok found) =
     IsUsable edges request found.walk.items × (sent request.amount found.walk.items < 2 ^ 64)
-    × (found.is_best ≡ true → IsLeast edges request found.walk.items) × (found.is_best ≡ false → IsBounded budget)
-IsWalkFound edges request budget (Err Undecided) = IsBounded budget
-IsWalkFound edges request budget (Err (Fault fault)) =
+    × (found.is_best ≡ true → IsLeast edges request found.walk.items)
+IsWalkFound edges request (Err Undecided) = Unit {0}
+IsWalkFound edges request (Err (Fault fault)) =
     (fault ≡ NoMemory) ⊎ ((fault ≡ NoRoute) × ((walk : List Edge) → IsUsable edges request walk → ⊥))
 
 -- a better walk may be usable: the budget ran out

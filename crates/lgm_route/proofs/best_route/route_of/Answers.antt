@@ -10,8 +10,8 @@ use Rattle.lgm_route.proofs.best_route.route_of.Goals as goal
 
 pub hops-requires-clause-carried : goal.hops-requires-clause-carried
 hops-requires-clause-carried g c =
-    carried_under c.args.request.now.amount c.args.walk.now
-    (subst (λ (n : ℕ). sent n c.args.walk.now < 2 ^ 64) c.requires.amount c.requires.small)
+    rw c.get.ensures.same (carried_under c.args.request.now.amount c.args.walk.now
+    (subst (λ (n : ℕ). sent n c.args.walk.now < 2 ^ 64) c.requires.amount c.requires.small))
 
 pub hops-requires-clause-ends : goal.hops-requires-clause-ends
 hops-requires-clause-ends g c =
@@ -26,7 +26,7 @@ from_vec-requires-clause-some g c =
       arith,
       c.requires.usable.some,
       ap length c.in_ok-hops.ensures,
-      length_hops c.args.request.now (edges_in graph c.args.walk.now),
+      length_hops c.get.result.now (edges_in graph c.args.walk.now),
       length-map c.args.walk.now (edge_between graph.points),
     )
 
@@ -38,6 +38,6 @@ from_vec-requires-clause-few g c =
       c.requires.usable.few,
       c.requires.hops,
       ap length c.in_ok-hops.ensures,
-      length_hops c.args.request.now (edges_in graph c.args.walk.now),
+      length_hops c.get.result.now (edges_in graph c.args.walk.now),
       length-map c.args.walk.now (edge_between graph.points),
     )

@@ -1,4 +1,5 @@
 use Rattle.std.proofs.Common.{◌≡◌, ◌∙◌, refl, sym, ap, subst, inr}
+use Rattle.std.proofs.lemmas.Result.{err_from_is_err_and}
 use Rattle.lgm_graph.specs.Edges.{edges_of, AreKeyed}
 use Rattle.lgm_graph.specs.Graph.{point_edges}
 use Rattle.lgm_graph.specs.Overlay.{overlaid_edges}
@@ -6,13 +7,14 @@ use Rattle.lgm_route.specs.Preferred.{penalty_at, preferred_answer, IsRouteBy, I
 use Rattle.lgm_route.proofs.PreferredLaws.{route_reordered, route_refused, used_reordered, beyond_reordered}
 use Rattle.lgm_route.proofs.preferred.answer_preferred.Goals as goal
 
-pub returns-in-Some-clause-answer : goal.returns-in-Some-clause-answer
-returns-in-Some-clause-answer c =
+pub returns-in_err-request-clause-answer : goal.returns-in_err-request-clause-answer
+returns-in_err-request-clause-answer c =
     let view = c.args.view.now in
-    inr (route_refused c.args.preferences.now c.args.estimates.now c.args.limits.now
-    (overlaid_edges view.known c.args.map.now c.args.overlay.now) c.args.request.now c.in-Some.fault
+    let p = err_from_is_err_and c.from_residual.result c.from_residual.ensures.1 in
+    rw (p.1, p.2) (inr (route_refused c.args.preferences.now c.args.estimates.now c.args.limits.now
+    (overlaid_edges view.known c.args.map.now c.args.overlay.now) c.args.request.now c.in_err-request.field-0.0
     (c.overlays_are_lawful.ensures.keyed view.known c.args.map.now c.args.overlay.now c.rows_are_lawful.ensures.ascend)
-    (sym c.refusal.ensures ∙ c.in-Some.is))
+    c.in_err-request.ensures.refused))
 
 pub returns-then-is_empty-clause-answer : goal.returns-then-is_empty-clause-answer
 returns-then-is_empty-clause-answer c =
@@ -22,11 +24,11 @@ returns-then-is_empty-clause-answer c =
     ap (overlaid_edges known rows) (c.if-is_empty.ensures refl) ∙ c.overlays_are_lawful.ensures.neutral known rows in
     let penalty = penalty_at c.args.preferences.now c.args.estimates.now in
     subst (λ edges. IsRouteBy (λ answer. answer ≡ preferred_answer penalty c.args.limits.now edges c.args.request.now) c.args.limits.now
-    edges c.args.request.now c.preferred_in.result) (sym same)
+    edges c.args.request.now c.preferred_over.result) (sym same)
     (route_reordered c.args.preferences.now c.args.estimates.now c.args.limits.now (point_edges c.args.view.now) (edges_of known rows)
-    c.args.request.now c.preferred_in.result
+    c.args.request.now c.preferred_over.result
     (subst AreKeyed same (c.overlays_are_lawful.ensures.keyed known rows c.args.overlay.now c.rows_are_lawful.ensures.ascend))
-    (c.shows_the_edges.ensures.once rows c.requires.beside) c.preferred_in.ensures.answer)
+    (c.shows_the_edges.ensures.once rows c.requires.beside) (rw c.in_ok-request.ensures.same at c.preferred_over.ensures.answer))
 
 pub returns-then-is_empty-clause-beyond : goal.returns-then-is_empty-clause-beyond
 returns-then-is_empty-clause-beyond c = λ none known cut.
@@ -36,22 +38,22 @@ returns-then-is_empty-clause-beyond c = λ none known cut.
     ap (overlaid_edges bits rows) (c.if-is_empty.ensures refl) ∙ c.overlays_are_lawful.ensures.neutral bits rows in
     subst (λ edges. IsBeyond c.args.limits.now edges c.args.request.now) (sym same)
     (beyond_reordered c.args.limits.now (point_edges c.args.view.now) (edges_of bits rows) c.args.request.now
-    (c.shows_the_edges.ensures.once rows c.requires.beside) (c.preferred_in.ensures.beyond none known cut))
+    (c.shows_the_edges.ensures.once rows c.requires.beside) (rw c.in_ok-request.ensures.same at (c.preferred_over.ensures.beyond none known cut)))
 
 pub returns-clause-answer : goal.returns-clause-answer
 returns-clause-answer c =
     let view = c.args.view.now in
     route_reordered c.args.preferences.now c.args.estimates.now c.args.limits.now (point_edges c.in_ok-over.over)
-    (overlaid_edges view.known c.args.map.now c.args.overlay.now) c.args.request.now c.preferred_in-2.result
+    (overlaid_edges view.known c.args.map.now c.args.overlay.now) c.args.request.now c.preferred_over-2.result
     (c.overlays_are_lawful.ensures.keyed view.known c.args.map.now c.args.overlay.now c.rows_are_lawful.ensures.ascend)
-    (c.in_ok-over.ensures.edges c.args.map.now c.rows_are_lawful.ensures.ended c.requires.beside) c.preferred_in-2.ensures.answer
+    (c.in_ok-over.ensures.edges c.args.map.now c.rows_are_lawful.ensures.ended c.requires.beside) (rw c.in_ok-request.ensures.same at c.preferred_over-2.ensures.answer)
 
 pub returns-clause-beyond : goal.returns-clause-beyond
 returns-clause-beyond c = λ none known cut.
     beyond_reordered c.args.limits.now (point_edges c.in_ok-over.over)
     (overlaid_edges c.args.view.now.known c.args.map.now c.args.overlay.now) c.args.request.now
     (c.in_ok-over.ensures.edges c.args.map.now c.rows_are_lawful.ensures.ended c.requires.beside)
-    (c.preferred_in-2.ensures.beyond none known cut)
+    (rw c.in_ok-request.ensures.same at (c.preferred_over-2.ensures.beyond none known cut))
 
 pub returns-then-is_empty-clause-used_up : goal.returns-then-is_empty-clause-used_up
 returns-then-is_empty-clause-used_up c = λ cut.
@@ -61,11 +63,11 @@ returns-then-is_empty-clause-used_up c = λ cut.
     ap (overlaid_edges bits rows) (c.if-is_empty.ensures refl) ∙ c.overlays_are_lawful.ensures.neutral bits rows in
     subst (λ edges. IsUsedUp c.args.limits.now edges c.args.request.now c.args.budget.now) (sym same)
     (used_reordered c.args.limits.now (point_edges c.args.view.now) (edges_of bits rows) c.args.request.now c.args.budget.now
-    (c.shows_the_edges.ensures.once rows c.requires.beside) (c.preferred_in.ensures.used_up cut))
+    (c.shows_the_edges.ensures.once rows c.requires.beside) (rw c.in_ok-request.ensures.same at (c.preferred_over.ensures.used_up cut)))
 
 pub returns-clause-used_up : goal.returns-clause-used_up
 returns-clause-used_up c = λ cut.
     used_reordered c.args.limits.now (point_edges c.in_ok-over.over)
     (overlaid_edges c.args.view.now.known c.args.map.now c.args.overlay.now) c.args.request.now c.args.budget.now
     (c.in_ok-over.ensures.edges c.args.map.now c.rows_are_lawful.ensures.ended c.requires.beside)
-    (c.preferred_in-2.ensures.used_up cut)
+    (rw c.in_ok-request.ensures.same at (c.preferred_over-2.ensures.used_up cut))

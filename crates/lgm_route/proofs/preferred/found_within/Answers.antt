@@ -9,7 +9,7 @@ use Rattle.lgm_route.specs.inner.Best.{ask_of, edges_in, IsWalkFound, IsUsedUp}
 use Rattle.lgm_route.specs.declared.found.SearchFault.{SearchFault}
 use Rattle.lgm_route.specs.declared.found.SearchFault.TheVariants.{Fault, Undecided}
 use Rattle.lgm_route.proofs.PointWalkLaws.{used_over}
-use Rattle.lgm_route.proofs.FoundRoutes.{any_fault, best_route, some_route, walk_fault}
+use Rattle.lgm_route.proofs.FoundRoutes.{best_route, some_route, walk_fault}
 use Rattle.lgm_route.specs.inner.Best as numbers
 use Rattle.lgm_route.proofs.preferred.found_within.Goals as goal
 
@@ -18,38 +18,32 @@ same_cut : (fault : SearchFault) → IsCutShort (Err fault) → numbers.IsCutSho
 same_cut Undecided cut = cut
 same_cut (Fault fault) cut = cut
 
-pub returns-in_err-numbered-clause-answer : goal.returns-in_err-numbered-clause-answer
-returns-in_err-numbered-clause-answer g c = λ penalty alike.
-    let edges = point_edges (g.V.RoutingGraph.graph c.args.graph.now) in
-    let p = err_from_is_err_and c.from_residual.result c.from_residual.ensures.1 in
-    rw (p.1, p.2) (inr (any_fault penalty c.args.limits.now edges c.args.request.now c.in_err-numbered.field-0.0 c.in_err-numbered.ensures.answer))
-
 pub returns-in_err-found-clause-answer : goal.returns-in_err-found-clause-answer
 returns-in_err-found-clause-answer g c = λ penalty alike.
     let graph = g.V.RoutingGraph.graph c.args.graph.now in
-    let numbered = c.in_ok-numbered.numbered in
-    let is = c.in_ok-numbered.ensures.found in
+    let numbered = c.in-Some.numbered in
+    let is = c.in-Some.ensures.numbered in
     let terms = g.P.Penalties.terms in
     let ask : Ask = ask_of numbered.payer numbered.payee c.args.request.now c.args.limits.now (terms c.args.penalties) in
     let same : asked (terms numbered.penalties) numbered ≡ ask = ap (λ n. asked (terms n.penalties) n) is.3 in
-    let p = err_from_is_err_and c.from_residual-in_err-found.result c.from_residual-in_err-found.ensures.1 in
+    let p = err_from_is_err_and c.from_residual.result c.from_residual.ensures.1 in
     rw (p.1, p.2)
     (walk_fault graph c.nodes-nodes.ensures.listed c.args.request.now numbered.payer numbered.payee is.0 is.1
-    c.args.limits.now (terms c.args.penalties) penalty alike c.in_ok-numbered.ensures.allowed c.args.budget.now c.in_err-found.field-0.0
-    (subst (λ a. IsWalkFound (edges graph) a c.args.budget.now (Err c.in_err-found.field-0.0)) same c.in_err-found.ensures.found))
+    c.args.limits.now (terms c.args.penalties) penalty alike c.in-Some.ensures.allowed c.in_err-found.field-0.0
+    (subst (λ a. IsWalkFound (edges graph) a (Err c.in_err-found.field-0.0)) same c.in_err-found.ensures.found))
 
 pub returns-clause-answer : goal.returns-clause-answer
 returns-clause-answer g c = λ penalty alike.
     let graph = g.V.RoutingGraph.graph c.args.graph.now in
-    let numbered = c.in_ok-numbered.numbered in
-    let is = c.in_ok-numbered.ensures.found in
+    let numbered = c.in-Some.numbered in
+    let is = c.in-Some.ensures.numbered in
     let terms = g.P.Penalties.terms in
     let ask : Ask = ask_of numbered.payer numbered.payee c.args.request.now c.args.limits.now (terms c.args.penalties) in
     let same : asked (terms numbered.penalties) numbered ≡ ask = ap (λ n. asked (terms n.penalties) n) is.3 in
     let walk = c.in_ok-found.found.walk.items in
     let found = subst (λ a. IsUsable (edges graph) a walk) same c.in_ok-found.ensures.found.0 in
     let are = c.in_ok-route.ensures ∙ ap (λ w. hops_of c.args.request.now (edges_in graph w)) c.deref.ensures.value in
-    let allowed = c.in_ok-numbered.ensures.allowed in (
+    let allowed = c.in-Some.ensures.allowed in (
       λ best. best_route graph c.nodes-nodes.ensures.listed c.args.request.now numbered.payer numbered.payee is.0 is.1
           c.args.limits.now (terms c.args.penalties) penalty alike allowed walk c.in_ok-route.route
           (subst (λ a. IsLeast (edges graph) a walk) same (c.in_ok-found.ensures.found.2 best)) are,
@@ -61,12 +55,12 @@ returns-clause-answer g c = λ penalty alike.
 pub returns-in_err-found-clause-used_up : goal.returns-in_err-found-clause-used_up
 returns-in_err-found-clause-used_up g c = λ cut.
     let graph = g.V.RoutingGraph.graph c.args.graph.now in
-    let numbered = c.in_ok-numbered.numbered in
-    let is = c.in_ok-numbered.ensures.found in
+    let numbered = c.in-Some.numbered in
+    let is = c.in-Some.ensures.numbered in
     let terms = g.P.Penalties.terms in
     let ask : Ask = ask_of numbered.payer numbered.payee c.args.request.now c.args.limits.now (terms c.args.penalties) in
     let same : asked (terms numbered.penalties) numbered ≡ ask = ap (λ n. asked (terms n.penalties) n) is.3 in
-    let p = err_from_is_err_and c.from_residual-in_err-found.result c.from_residual-in_err-found.ensures.1 in
+    let p = err_from_is_err_and c.from_residual.result c.from_residual.ensures.1 in
     let fault : SearchFault = c.in_err-found.field-0.0 in
     let short : IsCutShort (Err fault) = rw (p.1, p.2) at cut in
     used_over graph c.nodes-nodes.ensures.listed c.args.request.now numbered.payer numbered.payee is.0 is.1
@@ -76,8 +70,8 @@ returns-in_err-found-clause-used_up g c = λ cut.
 pub returns-clause-used_up : goal.returns-clause-used_up
 returns-clause-used_up g c = λ cut.
     let graph = g.V.RoutingGraph.graph c.args.graph.now in
-    let numbered = c.in_ok-numbered.numbered in
-    let is = c.in_ok-numbered.ensures.found in
+    let numbered = c.in-Some.numbered in
+    let is = c.in-Some.ensures.numbered in
     let terms = g.P.Penalties.terms in
     let ask : Ask = ask_of numbered.payer numbered.payee c.args.request.now c.args.limits.now (terms c.args.penalties) in
     let same : asked (terms numbered.penalties) numbered ≡ ask = ap (λ n. asked (terms n.penalties) n) is.3 in

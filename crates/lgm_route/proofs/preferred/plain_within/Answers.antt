@@ -11,7 +11,7 @@ returns-then-is_within-clause-answer g c = λ penalty free.
     let request = c.args.request.now in
     let limits = c.args.limits.now in
     let route = c.in_ok-route.route in
-    let is : IsAnswer edges request (Ok route) = elim c.in_ok-route.ensures.answer [ inl e ↦ absurd cc | inr is ↦ is ] in
+    let is : IsAnswer edges request (Ok route) = elim c.in_ok-route.ensures [ inl e ↦ absurd cc | inr is ↦ is ] in
     let within = sym c.is_within.ensures ∙ c.if-is_within.true in
     let some = plain_some edges request route is in (
       λ best. answer_narrowed penalty limits edges request route (plain_answer penalty free edges request (Ok route) is) within,
@@ -28,5 +28,5 @@ pub returns-clause-beyond : goal.returns-clause-beyond
 returns-clause-beyond g c = λ cut.
     let edges = point_edges (g.V.RoutingGraph.graph c.args.graph.now) in
     let route = c.in_ok-route.route in
-    let is : IsAnswer edges c.args.request.now (Ok route) = elim c.in_ok-route.ensures.answer [ inl e ↦ absurd cc | inr is ↦ is ] in
+    let is : IsAnswer edges c.args.request.now (Ok route) = elim c.in_ok-route.ensures [ inl e ↦ absurd cc | inr is ↦ is ] in
     plain_beyond c.args.limits.now edges c.args.request.now route is (sym c.is_within.ensures ∙ c.if-is_within.false)

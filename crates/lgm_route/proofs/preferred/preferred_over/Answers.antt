@@ -4,8 +4,8 @@ use Rattle.std.proofs.lemmas.Bool.{false≢true}
 use Rattle.lgm_route.specs.Preferred.{penalty_at}
 use Rattle.lgm_route.specs.declared.preferences.Preferences.{Preferences}
 use Rattle.lgm_route.proofs.PreferredLaws.{free_of}
-use Rattle.lgm_route.proofs.preferred.preferred_in.Goals as goal
-use Rattle.lgm_route.proofs.preferred.preferred_in.Goals.{else-are_none-via-then-are_none+else-len-eq0, else-are_none-via-else-are_none}
+use Rattle.lgm_route.proofs.preferred.preferred_over.Goals as goal
+use Rattle.lgm_route.proofs.preferred.preferred_over.Goals.{else-are_none-via-then-are_none+else-len-eq0, else-are_none-via-else-are_none}
 
 pub returns-then-len-eq0-clause-answer : goal.returns-then-len-eq0-clause-answer
 returns-then-len-eq0-clause-answer g c =
