@@ -30,6 +30,11 @@ pub record Advances (admission : Result Op Refusal) (old new : Moment) : Type 0 
   pub accepts : admission ≡ Ok op
   pub becomes : new ≡ behind old op
 
--- why nothing was applied: memory ran out, or the refusal
+-- why nothing was applied: the refusal, or memory ran out where there is none
+abbrev pub RefusesFirst : Result Op Refusal → Refusal → Type 0
+RefusesFirst admission refusal =
+    ((op : Op) × (admission ≡ Ok op) × (refusal ≡ refusals.NoMemory)) ⊎ (admission ≡ Err refusal)
+
+-- the same, where memory may run out before it is found
 abbrev pub RefusesOrRunsOut : Result Op Refusal → Refusal → Type 0
 RefusesOrRunsOut admission refusal = (refusal ≡ refusals.NoMemory) ⊎ (admission ≡ Err refusal)

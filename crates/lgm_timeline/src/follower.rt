@@ -62,6 +62,7 @@ impl Follower {
         ensures from { self.old.at ≤ self.new.at }
         ensures before { self.new.at ≤ to }
         ensures done { OnOk result (self.new.at ≡ to) }
+        ensures idle { self.old.at ≡ to → self.new ≡ self.old }
     {
         while self.at < to {
             self.read_ahead(log);

@@ -117,6 +117,7 @@ impl Past {
         ensures own { IsSome self.old.mark → IsSome self.new.mark }
         ensures log { self.new.log ≡ self.old.log }
         ensures reached { OnOk result (IfSome self.new.mark (IsReached self.new.marked)) }
+        ensures idle { IfSome self.old.mark (IsReached self.old.marked) → self.new.mark ≡ self.old.mark }
     {
         match &mut self.mark {
             Some(mark) => mark.catch_up(&self.log, self.marked),

@@ -1,14 +1,15 @@
 //! Maps that go on.
 
 ghost use Rattle.std.specs.Prelude.{◌≡◌, ◌≤◌, IsSome, IsTrue, length, IfOk, IfErr, IfSome, OnOk, OnErr};
-ghost use Rattle.lgm_store.specs.Admission.{admitted};
+ghost use Rattle.lgm_store.specs.Admission.{admitted, admitted_close};
 ghost use Rattle.lgm_graph.specs.Network.{most_points};
 ghost use Rattle.lgm_timeline.specs.History.{behind, most_kept, HasView};
-ghost use Rattle.lgm_timeline.specs.Timeline.{newest, Advances, RefusesOrRunsOut};
+ghost use Rattle.lgm_timeline.specs.Timeline.{newest, Advances, RefusesFirst, RefusesOrRunsOut};
 
 use crate::edition::Edition;
 use crate::past::Past;
 use lgm_check::Refusal;
+use lgm_gossip::Scid;
 use lgm_graph::Network;
 use lgm_query::MapDiff;
 use lgm_store::{CheckedMessage, Hint, Op};
@@ -80,6 +81,20 @@ impl Timeline {
         Ok(())
     }
 
+    /// Closes a channel. A refusal or out of memory changes nothing, and what isn't in the map is refused even if memory is
+    /// short.
+    pub fn offer_close(&mut self, alloc: Global, scid: Scid) -> Result<(), Refusal>
+        ensures accepted { OnOk result
+            (Advances (admitted_close self.old.network.rows scid) (newest self.old) (newest self.new)) }
+        ensures refused { IfErr result (RefusesFirst (admitted_close self.old.network.rows scid)) }
+        ensures stays { OnErr result (newest self.new ≡ newest self.old) }
+        ensures marked { self.new.marked ≡ self.old.marked }
+        ensures few { OnOk result (self.new.kept ≤ most_kept self.old.network.rows) }
+    {
+        let close = self.newest.map().admit_close(scid)?;
+        Ok(self.absorb(alloc, close)?)
+    }
+
     /// Applies an operation. The only error is out of memory, which changes nothing.
     pub fn absorb(&mut self, alloc: Global, op: Op) -> Result<(), AllocError>
         ensures applied { OnOk result (newest self.new ≡ behind (newest self.old) op) }
@@ -102,11 +117,12 @@ impl Timeline {
         self.past.renew_mark();
     }
 
-    /// Brings the network of the mark there, by the operations that it lacks. The only error is out of memory.
+    /// Brings the network of the mark there, by the operations that it lacks, with its view. The only error is out of memory.
     pub fn reach_mark(&mut self) -> Result<(), AllocError>
         ensures newest { newest self.new ≡ newest self.old }
         ensures marked { self.new.marked ≡ self.old.marked }
         ensures reached { OnOk result (IsTrue self.new.is_reached) }
+        ensures view { IsTrue self.old.is_reached → self.new.graph_at_mark ≡ self.old.graph_at_mark }
         ensures few { self.new.kept ≤ self.old.kept }
     {
         self.past.reach_mark(&self.newest)?;

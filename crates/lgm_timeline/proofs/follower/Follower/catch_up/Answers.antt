@@ -16,4 +16,5 @@ loop-self-preserved c =
       known = c.in_ok-absorb.ensures.known ∙ c.loop-self.invariant.known;
       from = omega arith;
       before = omega arith;
+      idle = λ there. absurd (omega (arith, there, behind, c.loop-self.invariant.from));
     }

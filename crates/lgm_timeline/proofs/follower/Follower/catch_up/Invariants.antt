@@ -10,6 +10,7 @@ invariant-loop-self l = record {
   known : l.self.network.known ≡ l.initial.self.network.known;
   from : l.initial.self.at ≤ l.self.at;
   before : l.self.at ≤ l.to;
+  idle : l.initial.self.at ≡ l.to → l.self ≡ l.initial.self;
 }
 
 abbrev pub decreases-loop-self : goal.decreases-loop-self
