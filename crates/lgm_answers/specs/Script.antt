@@ -1,6 +1,6 @@
 -- The text for the requests of a script, each depending on the requests before it.
 use Rattle.std.specs.Prelude.{ℕ, zero, suc, ◌+◌, ◌==◌, Bool, true, false, List, [], ◌∷◌, ◌++◌, length}
-use Rattle.std.specs.Prelude.{take, map, Option, Some, None, slice_index_or, codes, if◌then◌else◌}
+use Rattle.std.specs.Prelude.{take, map, Option, None, slice_index_or, codes, if◌then◌else◌}
 use Rattle.std.specs.List.{filter_map, last_or, list_any}
 use Rattle.std.specs.Result.{result_ok, result_err}
 use Rattle.lgm_wire.specs.declared.chain_hash.ChainHash.{ChainHash}
@@ -11,7 +11,7 @@ use Rattle.lgm_script.specs.declared.item.Item.{Item}
 use Rattle.lgm_script.specs.declared.command.Command.{Command}
 use Rattle.lgm_script.specs.declared.command.Command.TheVariants as requests
 use Rattle.lgm_script.specs.Lines.{lines_of}
-use Rattle.lgm_script.specs.Command.{command_of}
+use Rattle.lgm_script.specs.Command.{command_of, item_in}
 use Rattle.lgm_script.specs.Text.{word_line}
 use Rattle.lgm_answers.specs.declared.filters.PeerFilter.{PeerFilter}
 use Rattle.lgm_answers.specs.Outcomes.{outcome_of, history_of}
@@ -26,11 +26,7 @@ commands_of script = map command_of (lines_of script)
 
 -- ---- the effect of requests
 
--- the item that is offered
-abbrev pub item_in : Command → Option Item
-item_in (requests.Offer item) = Some item
-item_in _ = None
-
+-- the items that are offered
 abbrev pub items_of : List Command → List Item
 items_of asked = filter_map item_in asked
 

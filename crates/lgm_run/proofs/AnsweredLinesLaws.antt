@@ -134,7 +134,7 @@ module _ {chain : ChainHash} {known : Option (List ℕ)} {source : Input} {outpu
   answered_some first most output' fault line few begun =
       cut_in chain known source.left k state buffered mid.left output between up_to.so_far most first output' few line
       (record {
-        lines = begun.lines;
+        asked = begun.asked;
         len = begun.len;
         next = begun.next;
         limit = begun.limit;

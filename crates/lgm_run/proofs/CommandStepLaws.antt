@@ -17,13 +17,13 @@ use Rattle.lgm_query.specs.declared.filter.Filter.{Filter}
 use Rattle.lgm_script.specs.declared.item.Item.{Item}
 use Rattle.lgm_script.specs.declared.command.Command.{Command}
 use Rattle.lgm_script.specs.declared.command.Command.TheVariants as requests
-use Rattle.lgm_script.specs.Command.{HasLawfulPeer}
+use Rattle.lgm_script.specs.Command.{item_in, HasLawfulPeer}
 use Rattle.lgm_answers.specs.declared.filters.PeerFilter.{PeerFilter}
 use Rattle.lgm_query.specs.declared.request.RequestFault.{RequestFault}
 use Rattle.lgm_answers.specs.Filters.{filters_with, filters_from}
 use Rattle.lgm_query.specs.Requests.{filter_read}
 use Rattle.lgm_answers.specs.Outcomes.{outcome_of, with_outcome, outcomes_behind, history_of}
-use Rattle.lgm_answers.specs.Script.{item_in, items_of, is_commit, before_commit, filter_given, filter_of, filters_of, ScriptState, state_of}
+use Rattle.lgm_answers.specs.Script.{items_of, is_commit, before_commit, filter_given, filter_of, filters_of, ScriptState, state_of}
 use Rattle.lgm_answers.proofs.Outcomes.{outcome_joins}
 use Rattle.lgm_run.specs.inner.Steps.{opening, state_behind, state_after, state_from}
 use Rattle.lgm_run.proofs.Tables.{filters_from-agree, no_filters, filters_from-put}

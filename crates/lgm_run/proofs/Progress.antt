@@ -1,9 +1,9 @@
 -- How far a script was answered.
 use Rattle.std.proofs.Common.{◌≡◌, ◌⊎◌, inl, inr, ℕ, suc, ◌+◌, ◌<◌, ◌≤◌, List, [], ◌∷◌, ◌++◌, length, get_or}
-use Rattle.std.proofs.Common.{take, drop, min, Option, Some, None, refl, sym, ap, subst, ◌∙◌, append_assoc, add-one, arith}
+use Rattle.std.proofs.Common.{take, drop, Option, Some, None, refl, sym, ap, subst, ◌∙◌, append_assoc, add-one, arith}
 use Rattle.std.specs.Prelude.{IfSome, filter, map}
 use Rattle.std.specs.List.{AllByRecursion}
-use Rattle.std.proofs.lemmas.List.{append-nil, length-append, length-drop, length-take-le, drop_min, take_all}
+use Rattle.std.proofs.lemmas.List.{append-nil, length-append, length-drop, take_all}
 use Rattle.std.proofs.lemmas.List.{drop-map, take-map, nil_from_length}
 use Rattle.std.proofs.lemmas.List.Elements.{filter-append}
 use Rattle.std.proofs.lemmas.Option.{IfSome_then}
@@ -13,11 +13,11 @@ use Rattle.lgm_script.specs.declared.command.Command.{Command}
 use Rattle.lgm_script.specs.declared.command.Command.TheVariants as requests
 use Rattle.lgm_script.specs.Device.{IsAtEnd}
 use Rattle.lgm_script.specs.Lines.{ends_line, lines_of, ahead, IsFirstLine, IsLongerThan}
-use Rattle.lgm_script.specs.Groups.{AreFirstLines}
+use Rattle.lgm_script.specs.Groups.{AreFirstLines, AskNext}
 use Rattle.lgm_script.specs.Command.{command_of}
 use Rattle.lgm_script.specs.Output.{OutputState, Tells, TellsSome}
 use Rattle.lgm_script.proofs.Ahead.{left_is}
-use Rattle.lgm_script.proofs.FirstLines.{each-push, first_line_alone, stands_at}
+use Rattle.lgm_script.proofs.FirstLines.{each-push, stands_at}
 use Rattle.lgm_script.proofs.FirstWords.{request_is_lawful}
 use Rattle.lgm_script.proofs.FirstLineFeedLaws.{next_of}
 use Rattle.lgm_script.proofs.WrittenTextLaws.{tells_nothing, tells_both, some_behind}
@@ -26,7 +26,7 @@ use Rattle.lgm_answers.specs.Outcomes.{history_of}
 use Rattle.lgm_answers.specs.Script.{commands_of, items_of, ScriptState, state_of, text_for, text_at, text_before}
 use Rattle.lgm_answers.proofs.Lines.{has_line}
 use Rattle.lgm_run.specs.inner.Steps.{opening, state_after, state_from, text_from}
-use Rattle.lgm_run.specs.inner.Progress.{AreNext, HaveAnswers, HaveBegun}
+use Rattle.lgm_run.specs.inner.Progress.{HaveAnswers, HaveBegun}
 use Rattle.lgm_run.specs.Running.{IsTold, IsAnswered, IsTooMany, IsTooLong, IsCutShort}
 use Rattle.lgm_run.proofs.CommandStepLaws.{opening_is, state_after-request}
 
@@ -66,18 +66,6 @@ nothing_behind a b n none =
 
 nothing_behind_left : (a b : List ℕ) → a ++ b ≡ [] → b ≡ []
 nothing_behind_left a b none = nil_from_length b (omega (arith, ap length none, length-append a b))
-
--- the first line alone
-pub first_alone : (buffered : List ℕ) (first : ℕ) → first ≤ length buffered → first ≤ MAX_LINE
-    → AreNext buffered first (min (first + 1) (length buffered)) (take first buffered ∷ [])
-first_alone buffered first within small = record {
-  some = omega arith;
-  few = omega arith;
-  short = (omega (arith, length-take-le first buffered within), tt);
-  front =
-      λ left line. first_line_alone buffered (take first buffered) (drop (min (first + 1) (length buffered))
-      buffered) left first within refl (drop_min (first + 1) buffered) line;
-}
 
 -- ---- the text of one more line
 
@@ -188,7 +176,7 @@ module _ (chain : ChainHash) (known : Option (List ℕ)) (script : List ℕ) whe
   lines_step : (k : ℕ) (state : ScriptState) (buffered left rest : List ℕ) (lines : List (List ℕ))
       → IsAtLine chain known script k state (buffered ++ left)
       → AreFirstLines buffered (Some left) lines rest → AllByRecursion (λ line. length line ≤ MAX_LINE) lines
-      → Steps chain known script k (k + length lines) (state_from chain state (map command_of lines))
+      → Steps chain known script k (k + length (map command_of lines)) (state_from chain state (map command_of lines))
       (rest ++ left) (text_from chain (k + 1) state (map command_of lines))
   lines_step k state buffered left rest [] at first short =
       subst (λ n. Steps chain known script k n state (rest ++ left) []) (omega arith)
@@ -277,17 +265,19 @@ module _ (chain : ChainHash) (known : Option (List ℕ)) (script : Option (List 
       })
 
   -- the steps of the next ones
-  next_steps : (s : List ℕ) (at : IsSoFar chain known s k state (ahead buffered left) old mid) (first len : ℕ) (lines : List (List ℕ))
-      → IsFirstLine buffered left first → AreNext buffered first len lines → (bytes : List ℕ) × (left ≡ Some bytes)
-      × Steps chain known s k (k + length lines) (state_from chain state (map command_of lines))
-      (drop len buffered ++ bytes) (text_from chain (k + 1) state (map command_of lines))
-  next_steps s at first len lines line next =
-      let input = left_is buffered left at.rest at.input_is in (
+  next_steps : (s : List ℕ) (at : IsSoFar chain known s k state (ahead buffered left) old mid) (first len : ℕ) (asked : List Command)
+      → IsFirstLine buffered left first → AskNext buffered first len asked → (bytes : List ℕ) × (left ≡ Some bytes)
+      × Steps chain known s k (k + length asked) (state_from chain state asked)
+      (drop len buffered ++ bytes) (text_from chain (k + 1) state asked)
+  next_steps s at first len asked line ask =
+      let input = left_is buffered left at.rest at.input_is in
+      let next = ask.next in
+      rw ask.asked_is (
         input.0,
         input.1,
-        lines_step chain known s k state buffered input.0 (drop len buffered) lines
+        lines_step chain known s k state buffered input.0 (drop len buffered) ask.lines
             (subst (IsAtLine chain known s k state) input.2 at.at)
-            (subst (λ o. AreFirstLines buffered o lines (drop len buffered)) input.1 (next.front left line)) next.short,
+            (subst (λ o. AreFirstLines buffered o ask.lines (drop len buffered)) input.1 (next.front left line)) next.short,
       )
 
   -- they are answered
@@ -295,8 +285,7 @@ module _ (chain : ChainHash) (known : Option (List ℕ)) (script : Option (List 
       → HaveAnswers chain (k + 1) state state' buffered first (Tells mid new) count len
       → SoFar chain known script (k + count) state' (ahead (drop len buffered) left) old new
   step first count len state' new line answers = IfSome_then script so_far (λ s at.
-      let lines = answers.lines in
-      let steps = next_steps s at first len lines line answers.next in
+      let steps = next_steps s at first len answers.asked line answers.next in
       rw (answers.count_is, answers.state_is) (record {
         rest = drop len buffered ++ steps.0;
         input_is = ap (ahead (drop len buffered)) steps.1;
@@ -304,7 +293,7 @@ module _ (chain : ChainHash) (known : Option (List ℕ)) (script : Option (List 
         text =
             subst (Tells old new) (sym steps.2.text_is)
             (tells_both old mid new (text_before chain known (commands_of s) k)
-            (text_from chain (k + 1) state (map command_of lines)) at.text answers.text);
+            (text_from chain (k + 1) state answers.asked) at.text answers.text);
       }))
 
   -- a prefix of the text of lines that were read was written
@@ -353,8 +342,8 @@ module _ (chain : ChainHash) (known : Option (List ℕ)) (script : Option (List 
       → HaveBegun chain (k + 1) most state buffered first (TellsSome mid new)
       → IfSome script (IsCutShort chain known (TellsSome old new) left)
   cut_in most first new within line begun = IfSome_then script so_far (λ s at.
-      let asked = map command_of begun.lines in
-      let steps = next_steps s at first begun.len begun.lines line begun.next in
-      cut_at s at (k + length begun.lines) (state_from chain state asked) (drop begun.len buffered) steps.0
+      let asked = begun.asked in
+      let steps = next_steps s at first begun.len asked line begun.next in
+      cut_at s at (k + length asked) (state_from chain state asked) (drop begun.len buffered) steps.0
       (text_from chain (k + 1) state asked) new steps.1
       (let limit = begun.limit in omega arith) steps.2 begun.text)

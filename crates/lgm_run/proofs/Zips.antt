@@ -1,15 +1,11 @@
 -- Answers, one for each request of a list.
-use Rattle.std.proofs.Common.{List, [], ◌∷◌, map, Result, Ok, Err, IfOk, Vec}
-use Rattle.std.specs.List.{AllZip}
+use Rattle.std.proofs.Common.{List, [], ◌∷◌}
+use Rattle.std.specs.List.{AllByRecursion, AllZip}
 
--- a relation to the results of a function on the first list
-pub zip_of : {A B C : Type 0} (f : A → C) (R : C → B → Type 0) (xs : List A) (ys : List B) → AllZip (λ x y. R (f x) y) xs ys → AllZip R (map f xs) ys
-zip_of f R [] [] all = all
-zip_of f R [] (y ∷ ys) all = absurd all
-zip_of f R (x ∷ xs) [] all = absurd all
-zip_of f R (x ∷ xs) (y ∷ ys) all = (all.0, zip_of f R xs ys all.1)
-
-pub zip_of_ok : {A B C Z E : Type 0} (f : A → C) (R : C → B → Type 0) (xs : List A) (r : Result (Vec B Z) E)
-    → IfOk r (λ v. AllZip (λ x y. R (f x) y) xs v.items) → IfOk r (λ v. AllZip R (map f xs) v.items)
-zip_of_ok f R xs (Ok v) all = zip_of f R xs v.items all
-zip_of_ok f R xs (Err e) all = tt
+-- what holds of each request, and of it and its answer
+pub zip_each : {A B : Type 0} (P : A → Type 0) (R S : A → B → Type 0) → ((x : A) (y : B) → P x → R x y → S x y)
+    → (xs : List A) (ys : List B) → AllByRecursion P xs → AllZip R xs ys → AllZip S xs ys
+zip_each P R S both [] [] each all = tt
+zip_each P R S both [] (y ∷ ys) each all = absurd all
+zip_each P R S both (x ∷ xs) [] each all = absurd all
+zip_each P R S both (x ∷ xs) (y ∷ ys) each all = (both x y each.0 all.0, zip_each P R S both xs ys each.1 all.1)

@@ -1,13 +1,13 @@
 //! Answering lines in groups.
 
-ghost use Rattle.std.specs.Prelude.{◌≡◌, ◌≤◌, ◌+◌, ◌<◌, ◌^◌, length, map, OnOk};
+ghost use Rattle.std.specs.Prelude.{◌≡◌, ◌≤◌, ◌+◌, ◌<◌, ◌^◌, length, OnOk};
 ghost use Rattle.std.specs.List.{AllByRecursion};
 ghost use Rattle.lgm_script.specs.Groups.{IsOfKind, AreAlike};
 ghost use Rattle.lgm_script.specs.Output.{told_by, Writes};
-ghost use Rattle.lgm_script.specs.Command.{command_of};
-ghost use Rattle.lgm_run.specs.inner.CheckedItem.{state_by, offered_text};
-ghost use Rattle.lgm_run.specs.inner.Questions.{asked_in};
-ghost use Rattle.lgm_run.specs.inner.Steps.{state_alone, text_alone, state_from, text_from};
+ghost use Rattle.lgm_script.specs.declared.command.Command.{Command};
+ghost use Rattle.lgm_answers.specs.Script.{text_for};
+ghost use Rattle.lgm_run.specs.inner.CheckedItem.{IsItemOf};
+ghost use Rattle.lgm_run.specs.inner.Steps.{state_alone, text_alone, state_after, state_from, text_from};
 
 use crate::checked_item::{CheckedItem, check_lines};
 use crate::context::Context;
@@ -16,30 +16,32 @@ use crate::lookahead::{hint_of, lookahead};
 use lgm_answers::{MAX_LINES, outcome_word};
 use lgm_check::Refusal;
 use lgm_par::Gate;
-use lgm_script::{Command, Group, Line, LineKind, Output, SendFault, Sink, parse};
+use lgm_script::{Command, Group, Line, LineForm, LineKind, Output, SendFault, Sink};
 use lgm_store::Hint;
 use std::alloc::Global;
 use std::thread::Threads;
 
 /// Answers the line of an item, which was checked: offers the item, if there is one, and writes its outcome.
 #[inline(always)]
-fn answer_item<W: Sink>(
-    alloc: Global,
+fn answer_item<Rt: Threads + Sync, G: Gate, W: Sink>(
+    context: &Context<'_, Rt, G>,
     number: u64,
-    item: Option<CheckedItem>,
+    item: Option<Result<CheckedItem, Refusal>>,
     hint: Hint,
     engine: &mut Engine,
     output: &mut Output<'_, W>,
 ) -> Result<(), SendFault>
     requires few { engine.old.accepted + 1 < 2 ^ 64 }
-    ensures state { OnOk result (engine.new ≡ state_by engine.old item) }
-    ensures written { Writes (told_by W.seen output.old) (told_by W.seen output.new)
-        (offered_text number engine.old.rows item) result }
+    ensures state { (request : Command) → IsItemOf context.now.chain request item
+        → OnOk result (engine.new ≡ state_after context.now.chain engine.old request) }
+    ensures written { (request : Command) → IsItemOf context.now.chain request item
+        → Writes (told_by W.seen output.old) (told_by W.seen output.new)
+        (text_for context.now.chain number engine.old request) result }
 {
     let Some(item) = item else {
         return output.send(number, &Line::Word("bad"));
     };
-    match engine.offer(alloc, item, hint) {
+    match engine.offer(context.pool.alloc, item, hint) {
         // Nearly all are: this word is compiled into the line.
         Ok(()) => output.send(number, &Line::Word(outcome_word(None))),
         Err(Refusal::NoMemory) => Err(SendFault::NoMemory),
@@ -51,24 +53,23 @@ fn answer_item<W: Sink>(
 fn answer_items<Rt: Threads + Sync, G: Gate, W: Sink>(
     context: &Context<'_, Rt, G>,
     first: u64,
-    lines: &[&[u8]],
+    group: &Group<'_>,
     engine: &mut Engine,
     output: &mut Output<'_, W>,
 ) -> Result<(), SendFault>
-    requires items { AllByRecursion (IsOfKind LineKind.Item) (asked_in lines.now) }
-    requires number { first + length lines.now < 2 ^ 64 }
-    requires few { engine.old.accepted + length lines.now ≤ MAX_LINES }
-    ensures state { OnOk result (engine.new ≡ state_from context.now.chain engine.old (asked_in lines.now)) }
+    requires items { AllByRecursion (IsOfKind LineKind.Item) group.now.lines.items }
+    requires number { first + length group.now.lines.items < 2 ^ 64 }
+    requires few { engine.old.accepted + length group.now.lines.items ≤ MAX_LINES }
+    ensures state { OnOk result (engine.new ≡ state_from context.now.chain engine.old group.now.lines.items) }
     ensures written { Writes (told_by W.seen output.old) (told_by W.seen output.new)
-        (text_from context.now.chain first engine.old (asked_in lines.now)) result }
+        (text_from context.now.chain first engine.old group.now.lines.items) result }
 {
-    let all = check_lines(context, lines)?;
+    let all = check_lines(context, group)?;
     let mut ahead = lookahead(context.pool.alloc, &all)?;
     let mut number = first;
     for item in all {
-        let item = item?;
         let hint = hint_of(&mut ahead, engine.map(), &item);
-        answer_item(context.pool.alloc, number, item, hint, engine, output)?;
+        answer_item(context, number, item, hint, engine, output)?;
         number += 1;
     }
     Ok(())
@@ -78,16 +79,16 @@ fn answer_items<Rt: Threads + Sync, G: Gate, W: Sink>(
 fn answer_alone<W: Sink>(
     alloc: Global,
     number: u64,
-    line: &[u8],
+    line: &LineForm<'_>,
     engine: &mut Engine,
     output: &mut Output<'_, W>,
 ) -> Result<(), SendFault>
-    requires { IsOfKind LineKind.Other (command_of line.now) }
-    ensures state { OnOk result (engine.new ≡ state_alone engine.old (command_of line.now)) }
+    requires { IsOfKind LineKind.Other line.now }
+    ensures state { OnOk result (engine.new ≡ state_alone engine.old line.now) }
     ensures written { Writes (told_by W.seen output.old) (told_by W.seen output.new)
-        (text_alone number engine.old (command_of line.now)) result }
+        (text_alone number engine.old line.now) result }
 {
-    match parse(alloc, line)? {
+    match line.command(alloc)? {
         Command::Quiet => Ok(()),
         Command::Commit => engine.commit(alloc, number, output),
         _ => output.send(number, &Line::Word("bad")),
@@ -103,18 +104,18 @@ pub fn answer_group<Rt: Threads + Sync, G: Gate, W: Sink>(
     engine: &mut Engine,
     output: &mut Output<'_, W>,
 ) -> Result<(), SendFault>
-    requires alike { AreAlike group.now.kind (map (λ line. line.now) group.now.lines.items) }
+    requires alike { AreAlike group.now.kind group.now.lines.items }
     requires number { first + length group.now.lines.items < 2 ^ 64 }
     requires few { engine.old.accepted + length group.now.lines.items ≤ MAX_LINES }
     ensures state { OnOk result
-        (engine.new ≡ state_from context.now.chain engine.old (asked_in group.now.lines.items)) }
+        (engine.new ≡ state_from context.now.chain engine.old group.now.lines.items) }
     ensures written { Writes (told_by W.seen output.old) (told_by W.seen output.new)
-        (text_from context.now.chain first engine.old (asked_in group.now.lines.items)) result }
+        (text_from context.now.chain first engine.old group.now.lines.items) result }
 {
     let lines = group.lines.as_slice();
     match group.kind {
-        LineKind::Item => answer_items(context, first, lines, engine, output),
+        LineKind::Item => answer_items(context, first, group, engine, output),
         LineKind::Question => engine.answer_questions(context, first, lines, output),
-        LineKind::Other => answer_alone(context.pool.alloc, first, lines[0], engine, output),
+        LineKind::Other => answer_alone(context.pool.alloc, first, &lines[0], engine, output),
     }
 }

@@ -1,32 +1,27 @@
 //! Checking items in parallel.
 
 ghost use Rattle.std.specs.Prelude.{◌≡◌, ◌≤◌, ◌/◌, length, IfOk};
-ghost use Rattle.std.specs.Option.{option_map};
 ghost use Rattle.std.specs.List.{AllZip};
-ghost use Rattle.lgm_check.specs.Precheck.{checked_of};
-ghost use Rattle.lgm_script.specs.Item.{bytes_of, item_of};
-ghost use Rattle.lgm_script.specs.Command.{command_of};
-ghost use Rattle.lgm_run.specs.inner.CheckedItem.{offered_by, offered_of, offered_in};
-ghost use Rattle.lgm_run.specs.inner.Questions.{asked_in};
+ghost use Rattle.lgm_script.specs.Item.{message_of};
+ghost use Rattle.lgm_script.specs.Command.{item_in};
+ghost use Rattle.lgm_run.specs.inner.CheckedItem.{IsCheckOf};
 
 use crate::context::Context;
 use lgm_check::{Evidence, Refusal};
 use lgm_gossip::{ChainHash, Scid};
 use lgm_par::Gate;
-use lgm_script::{ItemForm, decode_digits, item_form};
+use lgm_script::{Group, ItemForm, LineForm, decode_digits};
 use lgm_store::CheckedMessage;
 use std::alloc::{AllocError, Global};
 use std::thread::Threads;
 
-/// An item after its check, which needs no map.
+/// An item that passed its check, which needs no map.
 #[derive(Drop)]
 pub enum CheckedItem {
     /// A message that passed all checks without a map, with its row stored.
     Message(CheckedMessage),
     /// The close of a channel.
     Close(Scid),
-    /// A message that was refused.
-    Refused(Refusal),
 }
 
 /// Decodes the digits of a message into half as many bytes, and checks it, if they are digits.
@@ -37,19 +32,16 @@ fn check_digits(
     digits: &[u8],
     evidence: &Evidence,
     room: &mut [u8],
-) -> Result<Option<CheckedItem>, AllocError>
+) -> Option<Result<CheckedItem, Refusal>>
     requires { length room.old ≡ length digits.now / 2 }
-    ensures { IfOk result
-        (λ offered. offered ≡ option_map (λ bytes. offered_by (checked_of chain.now bytes evidence.now))
-        (bytes_of digits.now)) }
+    ensures { IsCheckOf chain.now (message_of digits.now evidence.now) result }
 {
     if !decode_digits(digits, room) {
-        return Ok(None);
+        return None;
     }
     match CheckedMessage::precheck(alloc, chain, room, evidence) {
-        Ok(message) => Ok(Some(CheckedItem::Message(message))),
-        Err(Refusal::NoMemory) => Err(AllocError),
-        Err(refusal) => Ok(Some(CheckedItem::Refused(refusal))),
+        Ok(message) => Some(Ok(CheckedItem::Message(message))),
+        Err(refusal) => Some(Err(refusal)),
     }
 }
 
@@ -63,10 +55,8 @@ fn check_message(
     chain: &ChainHash,
     digits: &[u8],
     evidence: &Evidence,
-) -> Result<Option<CheckedItem>, AllocError>
-    ensures { IfOk result
-        (λ offered. offered ≡ option_map (λ bytes. offered_by (checked_of chain.now bytes evidence.now))
-        (bytes_of digits.now)) }
+) -> Option<Result<CheckedItem, Refusal>>
+    ensures { IsCheckOf chain.now (message_of digits.now evidence.now) result }
 {
     let len = digits.len() / 2;
     if len <= SHORT {
@@ -74,35 +64,24 @@ fn check_message(
         return check_digits(alloc, chain, digits, evidence, &mut room[..len]);
     }
     let mut room = Vec::new(alloc);
-    room.resize(len, 0)?;
+    if room.resize(len, 0).is_err() {
+        return Some(Err(Refusal::NoMemory));
+    }
     check_digits(alloc, chain, digits, evidence, room.as_mut_slice())
 }
 
-/// Checks the item of a form, if its digits are digits.
-fn check_form(
-    alloc: Global,
-    chain: &ChainHash,
-    form: &ItemForm<'_>,
-) -> Result<Option<CheckedItem>, AllocError>
-    ensures { IfOk result (λ offered. offered ≡ option_map (offered_of chain.now) (item_of form.now)) }
-{
-    match form {
-        ItemForm::Message(digits, evidence) => check_message(alloc, chain, digits, evidence),
-        ItemForm::Close(scid) => Ok(Some(CheckedItem::Close(*scid))),
-    }
-}
-
-/// Parses a line, and checks the item that it offers, if any.
+/// Checks the item that a line offers: none if it is malformed. `NoMemory` is no verdict on the item.
 fn check_line(
     alloc: Global,
     chain: &ChainHash,
-    line: &[u8],
-) -> Result<Option<CheckedItem>, AllocError>
-    ensures { IfOk result (λ offered. offered ≡ offered_in chain.now (command_of line.now)) }
+    line: &LineForm<'_>,
+) -> Option<Result<CheckedItem, Refusal>>
+    ensures { IsCheckOf chain.now (item_in line.now) result }
 {
-    match &item_form(line) {
-        Some(form) => check_form(alloc, chain, form),
-        None => Ok(None),
+    match &line.item() {
+        Some(ItemForm::Message(digits, evidence)) => check_message(alloc, chain, digits, evidence),
+        Some(ItemForm::Close(scid)) => Some(Ok(CheckedItem::Close(*scid))),
+        None => None,
     }
 }
 
@@ -113,31 +92,27 @@ const FEW: usize = 64;
 const SHARE: usize = 131_072;
 
 /// The most chunks that lines are worth: one each if they are few, else two, and one more for each [`SHARE`] of text.
-fn most_chunks(lines: &[&[u8]]) -> usize
+fn most_chunks(group: &Group<'_>) -> usize
     ensures { 2 ≤ result }
 {
-    if lines.len() <= FEW {
+    if group.lines.len() <= FEW {
         return FEW;
     }
-    let mut text: usize = 0;
-    for line in lines {
-        text = text.saturating_add(line.len());
-    }
-    text / SHARE + 2
+    group.len / SHARE + 2
 }
 
-/// Checks the items of lines, in chunks in parallel. Each may run out of memory on its own.
+/// Checks the items of a group, in chunks in parallel.
 pub fn check_lines<Rt: Threads + Sync, G: Gate>(
     context: &Context<'_, Rt, G>,
-    lines: &[&[u8]],
-) -> Result<Vec<Result<Option<CheckedItem>, AllocError>>, AllocError>
-    ensures { IfOk result (λ all. AllZip (λ request offered. IfOk offered
-        (λ o. o ≡ offered_in context.now.chain request)) (asked_in lines.now) all.items) }
+    group: &Group<'_>,
+) -> Result<Vec<Option<Result<CheckedItem, Refusal>>>, AllocError>
+    ensures { IfOk result (λ all. AllZip (λ request item. IsCheckOf context.now.chain (item_in request) item)
+        group.now.lines.items all.items) }
 {
     let alloc = context.pool.alloc;
     let chain = &context.chain;
-    context
-        .pool
-        .at_most(most_chunks(lines))
-        .map(lines, &|line| check_line(alloc, chain, line))
+    context.pool.at_most(most_chunks(group)).map(
+        group.lines.as_slice(),
+        &|line| check_line(alloc, chain, line),
+    )
 }

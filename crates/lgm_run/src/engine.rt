@@ -2,12 +2,11 @@
 
 ghost use Rattle.std.specs.Prelude.{◌≡◌, ◌+◌, ◌≤◌, ◌<◌, ◌^◌, length, IfOk, IfErr, OnOk, OnErr};
 ghost use Rattle.lgm_wire.specs.reading.Reading.{Gives};
-ghost use Rattle.lgm_store.specs.Admission.{admitted_close};
 ghost use Rattle.lgm_timeline.specs.Timeline.{newest, Advances, RefusesOrRunsOut};
 ghost use Rattle.lgm_script.specs.Output.{told_by, Writes};
 ghost use Rattle.lgm_answers.specs.Answer.{commit_text};
-ghost use Rattle.lgm_run.specs.inner.CheckedItem.{outcome_on, settled};
-ghost use Rattle.lgm_run.specs.inner.Questions.{asked_in, filters_behind, questions_text};
+ghost use Rattle.lgm_run.specs.inner.CheckedItem.{admitted_item, outcome_on, settled};
+ghost use Rattle.lgm_run.specs.inner.Questions.{filters_behind, questions_text};
 ghost use Rattle.lgm_run.specs.inner.Steps.{opening, state_behind, state_committed};
 
 use crate::checked_item::CheckedItem;
@@ -15,10 +14,9 @@ use crate::context::Context;
 use crate::questions::answer_questions;
 use lgm_answers::{Filters, send_commit};
 use lgm_check::Refusal;
-use lgm_gossip::Scid;
 use lgm_graph::{Known, Network};
 use lgm_par::Gate;
-use lgm_script::{Line, Output, SendFault, Sink, may_ask_routes};
+use lgm_script::{Line, LineForm, Output, SendFault, Sink, may_ask_routes};
 use lgm_store::{Hint, Map, Seed};
 use lgm_timeline::Timeline;
 use std::alloc::{AllocError, Global};
@@ -47,7 +45,7 @@ impl Model for Engine {
 
 /// Offers a checked item, whose channel may be where the hint says. A refusal or out of memory changes nothing.
 #[inline(always)]
-#[tactic(auto, unfolding(crate::specs::inner::CheckedItem::outcome_on))]
+#[tactic(auto, unfolding(crate::specs::inner::CheckedItem::admitted_item))]
 fn offer_to(
     alloc: Global,
     timeline: &mut Timeline,
@@ -55,28 +53,15 @@ fn offer_to(
     hint: Hint,
 ) -> Result<(), Refusal>
     ensures accepted { OnOk result
-        (Advances (outcome_on timeline.old.network.rows item) (newest timeline.old) (newest timeline.new)) }
-    ensures refused { IfErr result (RefusesOrRunsOut (outcome_on timeline.old.network.rows item)) }
+        (Advances (admitted_item timeline.old.network.rows item) (newest timeline.old) (newest timeline.new)) }
+    ensures refused { IfErr result (RefusesOrRunsOut (admitted_item timeline.old.network.rows item)) }
     ensures stays { OnErr result (newest timeline.new ≡ newest timeline.old) }
     ensures marked { timeline.new.marked ≡ timeline.old.marked }
 {
     match item {
         CheckedItem::Message(message) => timeline.offer(alloc, message, hint),
-        CheckedItem::Close(scid) => close(alloc, timeline, scid),
-        CheckedItem::Refused(refusal) => Err(refusal),
+        CheckedItem::Close(scid) => timeline.offer_close(alloc, scid),
     }
-}
-
-/// Closes a channel. A refusal or out of memory changes nothing.
-fn close(alloc: Global, timeline: &mut Timeline, scid: Scid) -> Result<(), Refusal>
-    ensures accepted { OnOk result (Advances (admitted_close timeline.old.network.rows scid)
-        (newest timeline.old) (newest timeline.new)) }
-    ensures refused { IfErr result (RefusesOrRunsOut (admitted_close timeline.old.network.rows scid)) }
-    ensures stays { OnErr result (newest timeline.new ≡ newest timeline.old) }
-    ensures marked { timeline.new.marked ≡ timeline.old.marked }
-{
-    let close = timeline.network().map().admit_close(scid)?;
-    Ok(timeline.absorb(alloc, close)?)
 }
 
 impl Engine {
@@ -102,15 +87,24 @@ impl Engine {
         self.timeline.network().map()
     }
 
-    /// Offers a checked item, whose channel may be where the hint says. A refusal or out of memory leaves all unchanged.
-    pub fn offer(&mut self, alloc: Global, item: CheckedItem, hint: Hint) -> Result<(), Refusal>
+    /// Offers an item, unless its check refused it. Its channel may be where the hint says. A refusal or out of memory
+    /// leaves all unchanged.
+    pub fn offer(
+        &mut self,
+        alloc: Global,
+        item: Result<CheckedItem, Refusal>,
+        hint: Hint,
+    ) -> Result<(), Refusal>
         requires { self.old.accepted + 1 < 2 ^ 64 }
         ensures outcome { Gives Refusal.NoMemory (λ done. done) result
             (settled (outcome_on self.old.rows item)) }
         ensures state { OnOk result (self.new ≡ state_behind self.old (outcome_on self.old.rows item)) }
         ensures same { OnErr result (self.new ≡ self.old) }
     {
-        offer_to(alloc, &mut self.timeline, item, hint)
+        match item {
+            Ok(item) => offer_to(alloc, &mut self.timeline, item, hint),
+            Err(refusal) => Err(refusal),
+        }
     }
 
     /// Answers lines that request something of the committed map, the first with this number, and sets their filters.
@@ -118,16 +112,16 @@ impl Engine {
         &mut self,
         context: &Context<'_, Rt, G>,
         number: u64,
-        lines: &[&[u8]],
+        lines: &[LineForm<'_>],
         output: &mut Output<'_, W>,
     ) -> Result<(), SendFault>
         requires few { self.old.accepted ≤ 2000000000 }
         requires number { number + length lines.now < 2 ^ 64 }
         ensures state { OnOk result (self.new ≡ record self.old
-            { filters = filters_behind context.now.chain self.old.filters (asked_in lines.now) }) }
+            { filters = filters_behind context.now.chain self.old.filters lines.now }) }
         ensures written { Writes (told_by W.seen output.old) (told_by W.seen output.new)
             (questions_text context.now.chain self.old.known self.old.committed number
-            self.old.filters (asked_in lines.now)) result }
+            self.old.filters lines.now) result }
     {
         self.timeline.reach_mark()?;
         if may_ask_routes(lines) {

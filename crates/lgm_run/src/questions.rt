@@ -4,10 +4,9 @@ ghost use Rattle.std.specs.Prelude.{◌≡◌, ◌+◌, ◌<◌, ◌^◌, IfOk, 
 ghost use Rattle.std.specs.List.{AllZip};
 ghost use Rattle.std.specs.Thread.{IsSync};
 ghost use Rattle.lgm_script.specs.Output.{told_by, Writes};
-ghost use Rattle.lgm_script.specs.Command.{command_of};
 ghost use Rattle.lgm_script.specs.declared.command.Command.TheVariants.{Route as AsksRoute};
 ghost use Rattle.lgm_answers.specs.Routing.{route_answer};
-ghost use Rattle.lgm_run.specs.inner.Questions.{asked_in, filters_behind};
+ghost use Rattle.lgm_run.specs.inner.Questions.{filters_behind};
 ghost use Rattle.lgm_run.specs.inner.Questions.{questions_text, IsAnswerTo, IsReady};
 
 use crate::context::Context;
@@ -16,7 +15,7 @@ use lgm_gossip::ChainHash;
 use lgm_graph::Network;
 use lgm_par::{Gate, MAX_WORKERS, Pool};
 use lgm_route::{RouteFault, answer_chunked};
-use lgm_script::{Command, Output, RouteParameters, SendFault, Sink, parse};
+use lgm_script::{Command, LineForm, Output, RouteParameters, SendFault, Sink};
 use std::alloc::AllocError;
 use std::thread::Threads;
 
@@ -44,13 +43,13 @@ fn answer_line<'a, Rt: Threads + Sync, G: Gate>(
     search: &Pool<'_, Rt, G>,
     chain: &ChainHash,
     committed: &'a Network,
-    line: &[u8],
+    line: &LineForm<'_>,
 ) -> Result<Answer<'a>, AllocError>
-    requires { IsReady committed.now.graph (command_of line.now) }
-    ensures { IfOk result (IsAnswerTo chain.now committed.now.known committed.now.rows (command_of line.now)) }
+    requires { IsReady committed.now.graph line.now }
+    ensures { IfOk result (IsAnswerTo chain.now committed.now.known committed.now.rows line.now) }
 {
     let alloc = search.alloc;
-    match parse(alloc, line)? {
+    match line.command(alloc)? {
         Command::Query(bytes) => answer_query(alloc, chain, committed.map(), bytes.as_slice()),
         Command::Filter(peer, bytes) => answer_filter(alloc, chain, peer, bytes.as_slice()),
         Command::Route(payment) => answer_route(search, committed, &payment),
@@ -63,20 +62,20 @@ fn answer_line<'a, Rt: Threads + Sync, G: Gate>(
 fn answer_all<'a, Rt: Threads + Sync, G: Gate>(
     context: &Context<'_, Rt, G>,
     committed: &'a Network,
-    lines: &[&[u8]],
+    lines: &[LineForm<'_>],
 ) -> Result<Vec<Result<Answer<'a>, AllocError>>, AllocError>
-    requires ready { All (λ line. IsReady committed.now.graph (command_of line.now)) lines.now }
+    requires ready { All (IsReady committed.now.graph) lines.now }
     ensures { IfOk result (λ all. AllZip (λ request answer. IfOk answer
         (IsAnswerTo context.now.chain committed.now.known committed.now.rows request))
-        (asked_in lines.now) all.items) }
+        lines.now all.items) }
 {
     let chain = &context.chain;
     let search = context
         .pool
         .at_most(if lines.len() == 1 { MAX_WORKERS } else { 1 });
-    let find = |line: &&[u8]| -> Result<Answer<'_>, AllocError>
+    let find = |line: &LineForm<'_>| -> Result<Answer<'_>, AllocError>
         requires sync { IsSync Rt.row }
-        requires ready { IsReady committed.now.graph (command_of line.now.now) }
+        requires ready { IsReady committed.now.graph line.now }
     { answer_line(&search, chain, committed, line) };
     context.pool.map(lines, &find)
 }
@@ -86,17 +85,17 @@ pub fn answer_questions<Rt: Threads + Sync, G: Gate, W: Sink>(
     context: &Context<'_, Rt, G>,
     committed: &Network,
     first: u64,
-    lines: &[&[u8]],
+    lines: &[LineForm<'_>],
     filters: &mut Filters,
     output: &mut Output<'_, W>,
 ) -> Result<(), SendFault>
-    requires ready { All (λ line. IsReady committed.now.graph (command_of line.now)) lines.now }
+    requires ready { All (IsReady committed.now.graph) lines.now }
     requires number { first + length lines.now < 2 ^ 64 }
     ensures filters { OnOk result
-        (filters.new ≡ filters_behind context.now.chain filters.old (asked_in lines.now)) }
+        (filters.new ≡ filters_behind context.now.chain filters.old lines.now) }
     ensures written { Writes (told_by W.seen output.old) (told_by W.seen output.new)
         (questions_text context.now.chain committed.now.known committed.now.rows first filters.old
-        (asked_in lines.now)) result }
+        lines.now) result }
 {
     let (alloc, chain) = (context.pool.alloc, &context.chain);
     let all = answer_all(context, committed, lines)?;

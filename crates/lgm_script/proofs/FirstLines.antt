@@ -1,18 +1,37 @@
 -- Lines one after the other.
-use Rattle.std.proofs.Common.{◌≡◌, ℕ, zero, suc, get_or, ◌<◌, ◌+◌, ◌-◌, ◌≤◌, List, [], ◌∷◌, ◌++◌}
-use Rattle.std.proofs.Common.{length, take, drop, min, Option, sym, ap, subst, ◌∙◌, arith}
+use Rattle.std.proofs.Common.{◌≡◌, ℕ, get_or, ◌<◌, ◌+◌, ◌≤◌, List, [], ◌∷◌, ◌++◌, length, take, drop}
+use Rattle.std.proofs.Common.{min, Option, refl, sym, ap, subst, ◌∙◌, arith}
 use Rattle.std.specs.List.{AllByRecursion}
-use Rattle.std.proofs.lemmas.List.{length-take-le, length-drop, drop_min, drop-drop, drop_more, take_more}
+use Rattle.std.proofs.lemmas.List.{length-take-le, length-drop, length_push, map-append, drop_min, drop-drop, drop_more, take_more}
+use Rattle.lgm_script.specs.declared.line_reader.TheConstants.{MAX_LINE}
+use Rattle.lgm_script.specs.declared.command.Command.{Command}
 use Rattle.lgm_script.specs.Lines.{IsFirstLine}
-use Rattle.lgm_script.specs.Groups.{AreFirstLines}
+use Rattle.lgm_script.specs.Command.{command_of}
+use Rattle.lgm_script.specs.Groups.{AreFirstLines, AreNext, AskNext}
 
--- the first one alone
-pub first_line_alone : (bytes line rest : List ℕ) (left : Option (List ℕ)) (n : ℕ) → n ≤ length bytes
-    → line ≡ take n bytes → rest ≡ drop (n + 1) bytes
-    → IsFirstLine bytes left n → AreFirstLines bytes left (line ∷ []) rest
-first_line_alone bytes line rest left n within is rest_is first =
-    let len : length line ≡ n = ap length is ∙ length-take-le n bytes within in
-    (is ∙ ap (λ k. take k bytes) (sym len), subst (IsFirstLine bytes left) (sym len) first, rest_is ∙ ap (λ k. drop (k + 1) bytes) (sym len))
+-- what is left after the first bytes, if there are as many
+drop_least : (n : ℕ) (bytes : List ℕ) → drop (min (length bytes) n) bytes ≡ drop n bytes
+drop_least n bytes = ap (λ k. drop k bytes) (omega arith) ∙ drop_min n bytes
+
+-- what the first one alone requests
+pub first_asks : (buffered : List ℕ) (first : ℕ) → first ≤ length buffered → first ≤ MAX_LINE
+    → AskNext buffered first (min (length buffered) (first + 1)) (command_of (take first buffered) ∷ [])
+first_asks buffered first within small =
+    let len : length (take first buffered) ≡ first = length-take-le first buffered within in
+    record {
+      lines = take first buffered ∷ [];
+      next = record {
+        some = omega arith;
+        few = omega arith;
+        short = (omega (arith, len, small), tt);
+        front = λ left line. (
+          ap (λ k. take k buffered) (sym len),
+          subst (IsFirstLine buffered left) (sym len) line,
+          drop_least (first + 1) buffered ∙ ap (λ k. drop (k + 1) buffered) (sym len),
+        );
+      };
+      asked_is = refl;
+    }
 
 -- one more after them
 pub first_lines-push : (bytes : List ℕ) (left : Option (List ℕ)) (lines : List (List ℕ))
@@ -28,23 +47,28 @@ pub each-push : {X : Type 0} (P : X → Type 0) (xs : List X) (x : X) → AllByR
 each-push P [] x all one = (one, tt)
 each-push P (y ∷ ys) x all one = (all.0, each-push P ys x all.1 one)
 
--- what is left after the first bytes starts where its length says
-pub cut_off : (n : ℕ) (bytes rest : List ℕ) → rest ≡ drop n bytes → rest ≡ drop (length bytes - length rest) bytes
-cut_off n bytes rest is =
-    let at : length bytes - length rest ≡ min n (length bytes) = omega (arith, ap length is, length-drop n bytes) in
-    is ∙ sym (drop_min n bytes) ∙ ap (λ k. drop k bytes) (sym at)
-
--- and so does what is left after the first of those
-pub cut_again : (n : ℕ) (bytes rest behind : List ℕ) → rest ≡ drop (length bytes - length rest) bytes
-    → behind ≡ drop n rest → behind ≡ drop (length bytes - length behind) bytes
-cut_again n bytes rest behind is behind_is =
-    cut_off (length bytes - length rest + n) bytes behind (behind_is ∙ ap (drop n) is ∙ drop-drop n (length bytes - length rest) bytes)
-
--- what holds of each holds at an index
-pub each_at : {X : Type 0} (P : X → Type 0) (xs : List X) (k : ℕ) (d : X) → AllByRecursion P xs → k < length xs → P (get_or xs k d)
-each_at P [] k d all lt = absurd (omega arith)
-each_at P (x ∷ xs) zero d all lt = all.0
-each_at P (x ∷ xs) (suc k) d all lt = each_at P xs k d all.1 (omega arith)
+-- what one more line requests
+pub one_more_asks : {buffered : List ℕ} {first len : ℕ} {asked : List Command} (count : ℕ) → AskNext buffered first len asked
+    → ((left : Option (List ℕ)) → IsFirstLine (drop len buffered) left count) → count < length (drop len buffered)
+    → count ≤ MAX_LINE → AskNext buffered first (len + (count + 1)) (asked ++ command_of (take count (drop len buffered)) ∷ [])
+one_more_asks {buffered} {first} {len} {asked} count so_far found within small =
+    let rest = drop len buffered in
+    let line = take count rest in
+    let size : length line ≡ count = length-take-le count rest (omega (arith, within)) in
+    record {
+      lines = so_far.lines ++ line ∷ [];
+      next = record {
+        some = omega (arith, length_push so_far.lines line);
+        few = omega (arith, within, length-drop len buffered, so_far.next.few);
+        short = each-push (λ l. length l ≤ MAX_LINE) so_far.lines line so_far.next.short (omega (arith, size, small));
+        front =
+            λ left is. first_lines-push buffered left so_far.lines line rest (drop (len + (count + 1)) buffered)
+            (so_far.next.front left is) (ap (λ k. take k rest) (sym size)) (subst (IsFirstLine rest left) (sym size) (found left))
+            (sym (drop-drop (count + 1) len buffered) ∙ ap (λ k. drop (k + 1) rest) (sym size));
+      };
+      asked_is =
+          ap (λ a. a ++ command_of line ∷ []) so_far.asked_is ∙ sym (map-append command_of so_far.lines (line ∷ []));
+    }
 
 -- the element at an index, and those after it
 pub record StandsAt {X : Type 0} (xs : List X) (k : ℕ) (d x : X) (others : List X) : Type 0 where

@@ -69,11 +69,15 @@ close_of (scid ∷ []) = do
   Some (Close id)
 close_of _ = None
 
--- the item of a form, if its digits are an even number of hexadecimal digits, at least two
-abbrev pub item_of : ItemForm → Option Item
-item_of (forms.Message digits evidence) = do
-  bytes ← bytes_of digits.now
+-- the message of these digits, if they are an even number of hexadecimal digits, at least two
+abbrev pub message_of : List ℕ → Evidence → Option Item
+message_of digits evidence = do
+  bytes ← bytes_of digits
   Some (Gossip bytes evidence)
+
+-- the item of a form, if its digits are those of bytes
+abbrev pub item_of : ItemForm → Option Item
+item_of (forms.Message digits evidence) = message_of digits.now evidence
 item_of (forms.Close id) = Some (Close id)
 
 -- the item that is spelled, if one is

@@ -1,10 +1,7 @@
 //! Items: what a line offers to the map.
 
-ghost use Rattle.std.specs.Prelude.{◌≡◌, ◌∷◌, ◌/◌, ◌↔◌, [], Some, None, length, IfOk, if◌then◌else◌};
+ghost use Rattle.std.specs.Prelude.{◌≡◌, ◌∷◌, ◌/◌, [], Some, None, length, IfOk, if◌then◌else◌};
 ghost use Rattle.lgm_script.specs.Field.{fields_of};
-ghost use Rattle.lgm_script.specs.Command.{command_of};
-ghost use Rattle.lgm_script.specs.declared.item.Item.{Item};
-ghost use Rattle.lgm_script.specs.declared.command.Command.TheVariants.{Offer};
 ghost use Rattle.lgm_script.specs.Item.{bytes_of, sig_of, funding_of, evidence_of};
 ghost use Rattle.lgm_script.specs.Item.{gossip_of, scid_of, close_of, item_of, item_spelled};
 
@@ -142,20 +139,6 @@ pub fn close<'a>(mut fields: Fields<'a>) -> Option<ItemForm<'a>>
     let name = fields.next()?;
     fields.end()?;
     Some(ItemForm::Close(scid(Fields::new(b'x', name))?))
-}
-
-/// The item that a line offers, as it is spelled there; none if the command is another one.
-#[tactic(auto, using(crate::proofs::Items::offers_what_its_word_tells))]
-pub fn item_form(line: &[u8]) -> Option<ItemForm<'_>>
-    ensures { (item : Item) → (item_spelled result ≡ Some item) ↔ (command_of line.now ≡ Offer item) }
-{
-    if let Some(text) = line.strip_prefix(b"m ") {
-        return message(text);
-    }
-    if let Some(text) = line.strip_prefix(b"close ") {
-        return close(Fields::new(b' ', text));
-    }
-    None
 }
 
 /// The item of a form, if its digits are digits.

@@ -100,6 +100,7 @@ pub(crate) fn find_line(bytes: &[u8], searched: usize) -> Option<usize>
     requires within { searched ≤ length bytes.now }
     requires searched { HasNoLineFeed (take searched bytes.now) }
     ensures line { IfSome result (λ count. (left : Option (List ℕ)) → IsFirstLine bytes.now left count) }
+    ensures within { IfSome result (λ count. count < length bytes.now) }
     ensures none { IfNone result (HasNoLineFeed bytes.now) }
 {
     let place = memchr(b'\n', &bytes[searched..])?;

@@ -1,58 +1,49 @@
 -- Items after their check, which needs no map, and before their turn, which does.
-use Rattle.std.specs.Prelude.{ℕ, List, Option, Some, None, Result, Ok, Err, codes}
-use Rattle.std.specs.Result.{result_err}
+use Rattle.std.specs.Prelude.{◌≡◌, ◌⊎◌, Option, Some, Result, Ok, Err}
+use Rattle.std.specs.Option.{option_map}
+use Rattle.lgm_wire.specs.reading.Reading.{◌>>=◌}
 use Rattle.lgm_wire.specs.declared.chain_hash.ChainHash.{ChainHash}
 use Rattle.lgm_check.specs.declared.refusal.Refusal.{Refusal}
-use Rattle.lgm_check.specs.declared.row.Checked.{Checked}
+use Rattle.lgm_check.specs.declared.refusal.Refusal.TheVariants as refusals
 use Rattle.lgm_check.specs.Precheck.{checked_of}
 use Rattle.lgm_store.specs.declared.op.Op.{Op}
 use Rattle.lgm_store.specs.Rows.{Rows}
 use Rattle.lgm_store.specs.Admission.{admitted, admitted_close}
 use Rattle.lgm_script.specs.declared.item.Item.{Item}
 use Rattle.lgm_script.specs.declared.item.Item.TheVariants as items
+use Rattle.lgm_script.specs.declared.line_form.LineKind.TheVariants as kinds
 use Rattle.lgm_script.specs.declared.command.Command.{Command}
-use Rattle.lgm_script.specs.declared.command.Command.TheVariants as requests
-use Rattle.lgm_script.specs.Text.{word_line}
-use Rattle.lgm_answers.specs.Answer.{outcome_word}
-use Rattle.lgm_answers.specs.Script.{ScriptState}
-use Rattle.lgm_run.specs.inner.Steps.{state_behind}
+use Rattle.lgm_script.specs.Command.{item_in}
+use Rattle.lgm_script.specs.Groups.{IsOfKind}
 use Rattle.lgm_run.specs.declared.checked_item.CheckedItem.{CheckedItem}
-use Rattle.lgm_run.specs.declared.checked_item.CheckedItem.TheVariants.{Message, Close, Refused}
+use Rattle.lgm_run.specs.declared.checked_item.CheckedItem.TheVariants.{Message, Close}
 
-abbrev pub offered_by : Result Checked Refusal → CheckedItem
-offered_by (Ok checked) = Message checked
-offered_by (Err refusal) = Refused refusal
+-- an item after its check, or why it is refused
+abbrev pub checked_item : ChainHash → Item → Result CheckedItem Refusal
+checked_item chain (items.Gossip bytes evidence) =
+    checked_of chain bytes evidence >>= λ checked. Ok (Message checked)
+checked_item chain (items.Close id) = Ok (Close id)
 
--- an item after its check
-abbrev pub offered_of : ChainHash → Item → CheckedItem
-offered_of chain (items.Gossip bytes evidence) = offered_by (checked_of chain bytes evidence)
-offered_of chain (items.Close id) = Close id
+-- this is the check of the item that a line offers, if it offers one, or memory ran out
+abbrev pub IsCheckOf : ChainHash → Option Item → Option (Result CheckedItem Refusal) → Type 0
+IsCheckOf chain item checked =
+    (checked ≡ option_map (checked_item chain) item) ⊎ (checked ≡ Some (Err refusals.NoMemory))
 
--- the item of a request after its check, if it offers one
-abbrev pub offered_in : ChainHash → Command → Option CheckedItem
-offered_in chain (requests.Offer item) = Some (offered_of chain item)
-offered_in chain _ = None
+-- a line that begins as an item requests this, and this is the check of its item
+pub record IsItemOf (chain : ChainHash) (request : Command) (item : Option (Result CheckedItem Refusal)) : Type 0 where
+  pub kind : IsOfKind kinds.Item request
+  pub check : IsCheckOf chain (item_in request) item
 
--- its outcome in its turn, on these rows
-unfoldable pub outcome_on : Rows → CheckedItem → Result Op Refusal
-outcome_on rows (Message checked) = admitted rows checked
-outcome_on rows (Close id) = admitted_close rows id
-outcome_on rows (Refused refusal) = Err refusal
+-- the operation of a checked item that a map of these rows accepts, or the refusal
+unfoldable pub admitted_item : Rows → CheckedItem → Result Op Refusal
+admitted_item rows (Message checked) = admitted rows checked
+admitted_item rows (Close id) = admitted_close rows id
+
+-- the outcome of an item in its turn, on these rows
+abbrev pub outcome_on : Rows → Result CheckedItem Refusal → Result Op Refusal
+outcome_on rows checked = checked >>= admitted_item rows
 
 -- the outcome without its operation
 abbrev pub settled : Result Op Refusal → Result (Unit {0}) Refusal
 settled (Ok op) = Ok tt
 settled (Err refusal) = Err refusal
-
--- the state after a line's item, if it offers one
-abbrev pub state_by : ScriptState → Option CheckedItem → ScriptState
-state_by state None = state
-state_by state (Some item) = state_behind state (outcome_on state.rows item)
-
--- the word of its outcome, and the line
-abbrev pub offered_word : Rows → Option CheckedItem → List ℕ
-offered_word rows None = codes "bad"
-offered_word rows (Some item) = outcome_word (result_err (outcome_on rows item))
-
-abbrev pub offered_text : ℕ → Rows → Option CheckedItem → List ℕ
-offered_text number rows item = word_line number (offered_word rows item)

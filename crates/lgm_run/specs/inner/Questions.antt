@@ -1,12 +1,10 @@
 -- Questions: they are answered on the committed rows, and change only the filters of peers.
-use Rattle.std.specs.Prelude.{◌≡◌, ℕ, List, map, Option, Some, None, codes}
-use Rattle.std.specs.Borrow.{Bor}
+use Rattle.std.specs.Prelude.{◌≡◌, ℕ, List, Option, Some, None, codes}
 use Rattle.lgm_wire.specs.declared.chain_hash.ChainHash.{ChainHash}
 use Rattle.lgm_store.specs.Rows.{Rows}
 use Rattle.lgm_graph.specs.Graph.{Graph}
 use Rattle.lgm_script.specs.declared.command.Command.{Command}
 use Rattle.lgm_script.specs.declared.command.Command.TheVariants as requests
-use Rattle.lgm_script.specs.Command.{command_of}
 use Rattle.lgm_script.specs.Groups.{IsNoRoute}
 use Rattle.lgm_script.specs.Text.{word_line}
 use Rattle.lgm_answers.specs.declared.answer.Answer.{Answer}
@@ -48,10 +46,6 @@ abbrev pub questions_text : ChainHash → Option (List ℕ) → Rows → ℕ →
 questions_text chain known committed =
     texts_of (filters_after chain)
     (λ number filters request. question_text chain known committed number request)
-
--- what lines request
-abbrev pub asked_in : List (Bor (List ℕ)) → List Command
-asked_in lines = map (λ line. command_of line.now) lines
 
 -- there is a view, or no route is requested
 abbrev pub IsReady : Option Graph → Command → Type 0

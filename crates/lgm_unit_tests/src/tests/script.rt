@@ -98,11 +98,9 @@ fn joined(alloc: Global, text: &[u8], most: usize) -> Result<Vec<u8>, Fail> {
         let Ok(Some(count)) = next_line(&mut reader, &mut source, &mut output) else {
             return Ok(joined);
         };
-        let group = next_group(alloc, reader.buffered(), count, 1)?;
-        joined.extend_from_slice(group.lines[0])?;
+        joined.extend_from_slice(&reader.buffered()[..count])?;
         joined.extend_from_slice(b"|")?;
-        let len = group.len;
-        drop(group);
+        let len = next_group(alloc, reader.buffered(), count, 1)?.len;
         reader.drop_front(len);
     }
     Ok(joined)

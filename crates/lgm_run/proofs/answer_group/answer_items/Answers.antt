@@ -1,16 +1,16 @@
-use Rattle.std.proofs.Common.{◌≡◌, arith, length, ◌∙◌, refl, sym, subst, ap}
-use Rattle.std.specs.Prelude.{IfOk}
+use Rattle.std.proofs.Common.{arith, length, ◌∙◌, refl, sym, subst, ap}
 use Rattle.std.specs.List.{AllZip}
-use Rattle.std.proofs.lemmas.List.{length-map, nil_from_length}
-use Rattle.std.proofs.lemmas.Result.{err_from_is_err_and, IfOk-at_ok}
+use Rattle.std.proofs.lemmas.List.{nil_from_length}
+use Rattle.std.proofs.lemmas.Result.{err_from_is_err_and}
 use Rattle.std.proofs.lemmas.Slice.Zip.{AllZip-long}
-use Rattle.lgm_script.specs.Command.{command_of}
+use Rattle.lgm_script.specs.declared.line_form.LineKind.TheVariants.{Item}
+use Rattle.lgm_script.specs.Command.{item_in}
+use Rattle.lgm_script.specs.Groups.{IsOfKind}
 use Rattle.lgm_script.proofs.WrittenTextLaws.{tells_none, onward_first}
-use Rattle.lgm_run.specs.inner.CheckedItem.{offered_in}
-use Rattle.lgm_run.specs.inner.Questions.{asked_in}
-use Rattle.lgm_run.proofs.AlikeRequestLaws.{IsItemOf, items_of}
+use Rattle.lgm_run.specs.inner.CheckedItem.{IsCheckOf, IsItemOf}
 use Rattle.lgm_run.proofs.CommandStepLaws.{accepted-le}
 use Rattle.lgm_run.proofs.TurnLaws.{next_turn, all_done}
+use Rattle.lgm_run.proofs.Zips.{zip_each}
 use Rattle.lgm_run.proofs.answer_group.answer_items.Goals as goal
 
 pub returns-in_err-all-clause-written : goal.returns-in_err-all-clause-written
@@ -26,42 +26,31 @@ returns-in_err-ahead-clause-written g c =
 pub loop-item-init : goal.loop-item-init
 loop-item-init g c =
     let chain = c.args.context.now.chain in
-    let lines = c.args.lines.now in
-    let asked = asked_in lines in
+    let asked = c.args.group.now.lines.items in
     let all = c.in_ok-all.all in
+    let items =
+    zip_each (IsOfKind Item) (λ request item. IsCheckOf chain (item_in request) item) (IsItemOf chain)
+    (λ request item kind check. record { kind = kind; check = check }) asked all.items c.requires.items c.in_ok-all.ensures in
     let gives = c.into_iter-item-iterator.ensures.into_iter_gives in
-    let long =
-    AllZip-long (λ request item. IfOk item (λ own. own ≡ offered_in chain request)) asked all.items
-    c.in_ok-all.ensures in
-    let many = length-map lines (λ line. command_of line.now) in
     let same = ap length gives.0 in
+    let long = AllZip-long (IsItemOf chain) asked all.items items in
     record {
       len = gives.1 ∙ all.ok.0 ∙ sym same;
-      number = omega (arith, same, long, many);
-      few = omega (arith, same, long, many, c.requires.few);
+      number = omega (arith, same, long);
+      few = omega (arith, same, long, c.requires.few);
       left = record {
         asked = asked;
-        known =
-            subst (AllZip (λ request item. IfOk item (IsItemOf chain request)) asked) (sym gives.0)
-            (items_of chain asked all.items c.requires.items c.in_ok-all.ensures);
+        known = subst (AllZip (IsItemOf chain) asked) (sym gives.0) items;
         leads = refl;
         told = onward_first _ _ _ refl;
       };
     }
 
-pub returns-in_err-item-clause-written : goal.returns-in_err-item-clause-written
-returns-in_err-item-clause-written g c =
-    let turn = next_turn c.loop-item.invariant.left _ _ c.in-Some.ensures.steps.0 in
-    let p = err_from_is_err_and c.from_residual-in_err-item.result c.from_residual-in_err-item.ensures.1 in
-    rw (p.1, p.2) (turn.stops _ _ _ refl (tells_none _ _))
-
 pub returns-in_err-answer_item-clause-written : goal.returns-in_err-answer_item-clause-written
 returns-in_err-answer_item-clause-written g c =
     let turn = next_turn c.loop-item.invariant.left _ _ c.in-Some.ensures.steps.0 in
-    let item = IfOk-at_ok _ c.in_ok-item.was turn.known in
     let p = err_from_is_err_and c.from_residual-in_err-answer_item.result c.from_residual-in_err-answer_item.ensures.1 in
-    rw (p.1, p.2)
-    (turn.stops _ _ _ (item.is_told c.loop-item.number c.loop-item.engine) c.in_err-answer_item.ensures.written)
+    rw (p.1, p.2) (turn.stops _ _ _ refl (c.in_err-answer_item.ensures.written turn.request turn.known))
 
 pub overflow_add-number : goal.overflow_add-number
 overflow_add-number g c =
@@ -73,8 +62,7 @@ loop-item-preserved g c =
     let steps = c.in-Some.ensures.steps in
     let one_less = ap length steps.0 in
     let turn = next_turn inv.left _ _ steps.0 in
-    let item = IfOk-at_ok _ c.in_ok-item.was turn.known in
-    let goes = c.in_ok-answer_item.ensures.state ∙ item.leaves c.loop-item.engine in
+    let goes = c.in_ok-answer_item.ensures.state turn.request turn.known in
     record {
       len = omega (arith, steps.1, one_less, inv.len);
       number = omega (arith, one_less, inv.number);
@@ -86,9 +74,7 @@ loop-item-preserved g c =
             one_less,
             inv.few,
           );
-      left =
-          turn.goes_on _ _ _ goes (item.is_told c.loop-item.number c.loop-item.engine)
-          c.in_ok-answer_item.ensures.written;
+      left = turn.goes_on _ _ _ goes refl (c.in_ok-answer_item.ensures.written turn.request turn.known);
     }
 
 pub returns-clause-state : goal.returns-clause-state

@@ -1,12 +1,11 @@
 use Rattle.std.proofs.Common.{arith, length, ◌∙◌, refl, sym, subst, ap}
 use Rattle.std.specs.Prelude.{IfOk}
 use Rattle.std.specs.List.{AllZip}
-use Rattle.std.proofs.lemmas.List.{length-map, drop_all}
+use Rattle.std.proofs.lemmas.List.{drop_all}
 use Rattle.std.proofs.lemmas.Result.{err_from_is_err_and, IfOk-at_ok}
 use Rattle.std.proofs.lemmas.Slice.Zip.{AllZip-long}
 use Rattle.lgm_script.proofs.WrittenTextLaws.{tells_none, onward_first}
-use Rattle.lgm_script.specs.Command.{command_of}
-use Rattle.lgm_run.specs.inner.Questions.{asked_in, IsAnswerTo}
+use Rattle.lgm_run.specs.inner.Questions.{IsAnswerTo}
 use Rattle.lgm_run.proofs.TurnLaws.{turn_at, all_done}
 use Rattle.lgm_run.proofs.questions.answer_questions.Goals as goal
 
@@ -16,15 +15,15 @@ loop-answer-init g c =
     let same = c.as_slice-answer-items.ensures.value in
     let long =
     AllZip-long (λ request answer. IfOk answer (IsAnswerTo c.args.context.now.chain c.args.committed.now.known
-    c.args.committed.now.rows request)) (asked_in lines) c.in_ok-all.all.items c.in_ok-all.ensures in
+    c.args.committed.now.rows request)) lines c.in_ok-all.all.items c.in_ok-all.ensures in
     record {
       number = omega arith;
-      many = omega (arith, ap length same, long, length-map lines (λ line. command_of line.now));
+      many = omega (arith, ap length same, long);
       left = record {
-        asked = asked_in lines;
+        asked = lines;
         known =
             subst (AllZip (λ request answer. IfOk answer (IsAnswerTo c.args.context.now.chain
-            c.args.committed.now.known c.args.committed.now.rows request)) (asked_in lines)) (sym same)
+            c.args.committed.now.known c.args.committed.now.rows request)) lines) (sym same)
             c.in_ok-all.ensures;
         leads = refl;
         told = onward_first _ _ _ refl;

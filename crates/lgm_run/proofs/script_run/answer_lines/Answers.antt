@@ -1,9 +1,6 @@
 use Rattle.std.proofs.Common.{◌-◌, refl, ap, arith, rules}
-use Rattle.std.specs.Prelude.{map}
-use Rattle.std.proofs.lemmas.List.{length-map}
 use Rattle.std.proofs.lemmas.Result.{err_from_is_err_and}
 use Rattle.lgm_script.specs.Output.{told_by}
-use Rattle.lgm_script.specs.Command.{command_of}
 use Rattle.lgm_answers.specs.declared.run_fault.TheConstants.{MAX_LINES}
 use Rattle.lgm_answers.proofs.LineFaults.{failed}
 use Rattle.lgm_run.proofs.CommandStepLaws.{accepted_from-le}
@@ -58,14 +55,12 @@ loop-number-preserved g c =
     line.kept (line.well (λ e. absurd cc)) (line.written (λ e. absurd cc)) in
     let answers = c.in_ok-some.ensures.answered in
     let count_is = ap (λ s. s.accepted) answers.state_is in
-    let asked = map command_of answers.lines in
     record {
       few =
           omega (
             arith,
             count_is,
-            accepted_from-le c.args.context.now.chain c.loop-number.engine asked,
-            length-map answers.lines command_of,
+            accepted_from-le c.args.context.now.chain c.loop-number.engine answers.asked,
             answers.count_is,
             inv.few,
           );
