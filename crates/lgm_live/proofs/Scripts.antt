@@ -27,7 +27,8 @@ use Rattle.lgm_script.specs.declared.command.Command.{Command}
 use Rattle.lgm_script.specs.declared.command.Command.TheVariants as requests
 use Rattle.lgm_answers.specs.Outcomes.{outcome_of, with_outcome, outcomes_behind, outcomes}
 use Rattle.lgm_answers.specs.Routing.{asked_route}
-use Rattle.lgm_answers.specs.Script.{item_in, items_of, is_commit}
+use Rattle.lgm_script.specs.Command.{item_in}
+use Rattle.lgm_answers.specs.Script.{items_of, is_commit}
 use Rattle.lgm_live.specs.declared.report.LiveAnswer.{LiveAnswer}
 use Rattle.lgm_live.specs.declared.report.LiveReport.{LiveReport}
 use Rattle.lgm_live.specs.ParsedScript.{batches_behind, batches_of, payments_of, dealt_from, list_for, lists_of}

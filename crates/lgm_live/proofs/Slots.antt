@@ -12,7 +12,8 @@ use Rattle.lgm_script.specs.declared.command.Command.{Command}
 use Rattle.lgm_script.specs.declared.command.Command.TheVariants as requests
 use Rattle.lgm_answers.specs.Answer.{outcome_text, route_text}
 use Rattle.lgm_script.specs.Text.{commit_line}
-use Rattle.lgm_answers.specs.Script.{item_in, items_of, is_commit}
+use Rattle.lgm_script.specs.Command.{item_in}
+use Rattle.lgm_answers.specs.Script.{items_of, is_commit}
 use Rattle.lgm_live.specs.declared.report.LiveAnswer.{LiveAnswer}
 use Rattle.lgm_live.specs.declared.report.LiveReport.{LiveReport}
 use Rattle.lgm_live.specs.declared.parsed_script.LineAnswer.{LineAnswer}

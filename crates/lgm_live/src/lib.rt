@@ -5,23 +5,22 @@
 //! does this with the items and payments of a script, and writes the results.
 #![tactic(auto)]
 
-mod batches;
 mod fault;
+mod lists;
 mod live_batches;
 mod live_script;
 mod ordering_gate;
 mod parsed_script;
 mod read_script;
 mod report;
-mod request_lists;
+mod turn;
 mod versions;
 mod worker;
 mod write_answers;
 mod writer;
 
-pub use batches::Batches;
 pub use fault::LiveFault;
+pub use lists::{Batches, RequestLists};
 pub use live_batches::live;
 pub use live_script::run_live;
 pub use report::{LiveAnswer, LiveReport};
-pub use request_lists::RequestLists;

@@ -8,17 +8,18 @@ ghost use Rattle.lgm_live.specs.Running.{IsReport};
 ghost use Rattle.lgm_live.specs.inner.WorkerResult.{HaveWorked, IsTied, IsOfWriter};
 ghost use Rattle.lgm_live.specs.inner.WriterResult.{ArePublished};
 
-use crate::batches::{Batch, Batches};
 use crate::fault::LiveFault;
+use crate::lists::{Batches, RequestLists};
 use crate::report::LiveReport;
-use crate::request_lists::{RequestList, RequestLists};
 use crate::versions::check_all_versions;
 use crate::worker::{WorkerResult, work_all};
 use crate::writer::{WriterResult, publish_batches};
 use lgm_board::{Eye, MAX_OPERATIONS, Pen, PublishFault, board};
-use lgm_gossip::ChainHash;
+use lgm_gossip::{ChainHash, Sequence};
 use lgm_graph::Known;
 use lgm_par::{Gate, MAX_WORKERS, Pool};
+use lgm_route::Request;
+use lgm_script::Item;
 use std::alloc::Global;
 use std::marker::Sync;
 use std::random::RandomSource;
@@ -29,7 +30,7 @@ use std::thread::{Threads, join_mut};
 fn work_given<R: Threads + Sync, G: Gate>(
     pool: &Pool<'_, R, G>,
     given: &mut Option<Vec<Eye>>,
-    lists: &[RequestList],
+    lists: &[Sequence<Request>],
 ) -> Result<Vec<WorkerResult>, LiveFault>
     requires given { IfSome given.old (λ eyes. length eyes.items ≡ length lists.now) }
     requires some { 0 < length lists.now }
@@ -49,8 +50,8 @@ fn run_both<R: Threads + Wait + Sync + RandomSource, G: Gate>(
     chain: &ChainHash,
     pen: &mut Pen,
     eyes: Vec<Eye>,
-    batches: &[Batch],
-    lists: &[RequestList],
+    batches: &[Sequence<Item>],
+    lists: &[Sequence<Request>],
 ) -> (
     Result<WriterResult, LiveFault>,
     Result<Vec<WorkerResult>, LiveFault>,
@@ -114,7 +115,7 @@ fn gather(
 }
 
 /// Runs one writer, which admits the items of each batch, in order, on a map of its own, and publishes what was
-/// accepted once per batch, while workers answer payments: one worker for each of the 1 to [`MAX_WORKERS`] lists. A
+/// accepted once per batch, while workers answer payments: one worker for each of the 1 to 64 lists. A
 /// worker answers its list in order, each payment on the map published last at that time.
 ///
 /// The gate is for tests, and no answer depends on it. Worker `i`, counted from 0, passes it with `i` before each
@@ -135,8 +136,8 @@ pub fn live<R: Threads + Wait + Sync + RandomSource, G: Gate>(
     lists: &RequestLists,
     gate: &G,
 ) -> Result<LiveReport, LiveFault>
-    requires items { length (items_of batches.now) ≤ MAX_OPERATIONS }
-    requires workers { (1 ≤ length lists.now) × (length lists.now ≤ MAX_WORKERS) }
+    requires items { length (items_of batches.now) ≤ 2000000000 }
+    requires workers { (1 ≤ length lists.now) × (length lists.now ≤ 64) }
     ensures report { IfOk result (IsReport chain.now known.now batches.now lists.now) }
 {
     let lists = lists.as_slice();

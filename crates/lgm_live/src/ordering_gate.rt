@@ -1,5 +1,6 @@
 //! The gate by which payments wait for the items before them.
 
+use crate::turn::Turn;
 use lgm_par::Gate;
 use std::alloc::{AllocError, Global};
 use std::marker::Sync;
@@ -12,7 +13,7 @@ use std::sync::{Condvar, Mutex, Wait};
 pub(crate) struct OrderingGate<'a, R: Wait, G: Gate> {
     rt: &'a R,
     gate: &'a G,
-    /// For each payment, in the script's order, the number of batches before it. Payments are dealt round-robin.
+    /// For each payment, in the script's order, the number of batches before it.
     above: &'a [usize],
     /// The number of payments that each worker has started.
     begun: Vec<AtomicU64>,
@@ -51,8 +52,10 @@ fn due(begun: &[AtomicU64], above: &[usize], worker: usize) -> usize {
     let Some(count) = begun.get(worker) else {
         return 0;
     };
-    let turn = count.fetch_add(1, Ordering::SeqCst) as usize;
-    let place = turn.saturating_mul(begun.len()).saturating_add(worker);
+    let round = count.fetch_add(1, Ordering::SeqCst) as usize;
+    let Some(place) = (Turn { worker, round }).place(begun.len()) else {
+        return 0;
+    };
     match above.get(place) {
         Some(batches) => *batches,
         None => 0,

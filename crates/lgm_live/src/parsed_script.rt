@@ -3,8 +3,8 @@
 ghost use Rattle.std.specs.Prelude.{◌≡◌, ◌+◌, ◌%◌, ◌<◌, ◌^◌, [], ◌∷◌, ◌++◌, length, replicate, IfOk, OnOk};
 ghost use Rattle.lgm_live.specs.inner.Gathered.{line_answer_of, given, with_request, with_line};
 
-use crate::batches::Batches;
-use crate::request_lists::RequestLists;
+use crate::lists::{Batches, RequestLists};
+use crate::turn::Turn;
 use lgm_answers::asked_route;
 use lgm_route::Request as RouteRequest;
 use lgm_script::{Command, Item};
@@ -68,8 +68,8 @@ impl ParsedScript {
         self.batches.push(batch)
     }
 
-    /// Assigns a payment to the next worker in round-robin order.
-    fn give(&mut self, request: RouteRequest) -> Result<(), AllocError>
+    /// Assigns a payment to the worker whose turn it is.
+    fn give(&mut self, alloc: Global, request: RouteRequest) -> Result<(), AllocError>
         requires some { 0 < length self.old.lists }
         requires few { self.old.payments + 1 < 2 ^ 64 }
         ensures { OnOk result (self.new ≡ record self.old {
@@ -77,9 +77,9 @@ impl ParsedScript {
           payments = self.old.payments + 1;
         }) }
     {
-        let worker = self.payments % self.lists.len();
+        let turn = Turn::of(self.payments, self.lists.len());
         self.above.push(self.batches.as_slice().len())?;
-        self.lists.give(worker, request)?;
+        self.lists.append(alloc, turn.worker, request)?;
         self.payments += 1;
         Ok(())
     }
@@ -104,7 +104,7 @@ impl ParsedScript {
             }
             Command::Query(_) | Command::Filter(_, _) => Ok(LineAnswer::NotLive),
             Command::Route(payment) => {
-                self.give(asked_route(&payment))?;
+                self.give(alloc, asked_route(&payment))?;
                 Ok(LineAnswer::Payment(payment.secret))
             }
         }

@@ -10,8 +10,8 @@ ghost use Rattle.lgm_live.specs.inner.WorkerResult.{HaveWorked};
 
 use crate::fault::LiveFault;
 use crate::report::LiveAnswer;
-use crate::request_lists::RequestList;
 use lgm_board::{Eye, Guard};
+use lgm_gossip::Sequence;
 use lgm_par::{Gate, MAX_WORKERS};
 use lgm_route::{Request, Route, RouteFault};
 use std::alloc::Global;
@@ -83,7 +83,7 @@ pub(crate) fn work_all<R: Threads + Sync, G: Gate>(
     gate: &G,
     first: usize,
     mut eyes: Vec<Eye>,
-    lists: &[RequestList],
+    lists: &[Sequence<Request>],
 ) -> Result<Vec<WorkerResult>, LiveFault>
     requires same { length eyes.items ≡ length lists.now }
     requires some { 0 < length lists.now }
@@ -124,7 +124,7 @@ fn work_alone<G: Gate>(
     gate: &G,
     worker: usize,
     mut eyes: Vec<Eye>,
-    lists: &[RequestList],
+    lists: &[Sequence<Request>],
 ) -> Result<Vec<WorkerResult>, LiveFault>
     requires one { length lists.now ≡ 1 }
     requires same { length eyes.items ≡ 1 }

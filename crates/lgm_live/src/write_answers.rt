@@ -11,6 +11,7 @@ ghost use Rattle.lgm_live.specs.declared.report.LiveAnswer.{LiveAnswer};
 
 use crate::parsed_script::LineAnswer;
 use crate::report::{LiveAnswer, LiveReport};
+use crate::turn::Turn;
 use lgm_answers::{MAX_LINES, outcome_word, send_found};
 use lgm_script::{Line, Output, SendFault, Sink};
 use std::alloc::Global;
@@ -55,7 +56,8 @@ fn answer_at(answers: &[Vec<LiveAnswer>], workers: usize, place: usize) -> Optio
     requires { 0 < workers }
     ensures { option_map (λ answer. answer.now) result ≡ answer_at workers answers.now place }
 {
-    answers.get(place % workers)?.get(place / workers)
+    let turn = Turn::of(place, workers);
+    answers.get(turn.worker)?.get(turn.round)
 }
 
 /// Writes the answer to a payment, with the version of its map. That the map of that many operations gives the same

@@ -8,11 +8,10 @@ ghost use Rattle.lgm_wire.specs.reading.Reading.{Gives};
 ghost use Rattle.lgm_store.specs.History.{absorbed};
 ghost use Rattle.lgm_answers.specs.Outcomes.{outcome_of};
 
-use crate::batches::Batch;
 use crate::fault::LiveFault;
 use lgm_board::{AppendCause, MAX_OPERATIONS, Pen};
 use lgm_check::Refusal;
-use lgm_gossip::ChainHash;
+use lgm_gossip::{ChainHash, Sequence};
 use lgm_par::{Gate, Pool};
 use lgm_script::Item;
 use lgm_store::{CheckedMessage, Map, Op, Seed};
@@ -150,7 +149,7 @@ pub(crate) fn publish_batches<R: Wait + RandomSource, G: Gate>(
     pool: &Pool<'_, R, G>,
     chain: &ChainHash,
     pen: &mut Pen,
-    batches: &[Batch],
+    batches: &[Sequence<Item>],
 ) -> Result<WriterResult, LiveFault>
     requires few { length (items_of batches.now) ≤ MAX_OPERATIONS }
     requires pen { (pen.old.published ≡ []) × (pen.old.pending ≡ []) }

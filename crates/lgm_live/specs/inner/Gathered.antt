@@ -32,9 +32,9 @@ pub record Gathered : Type 0 where
   -- where the report has the answer to each line
   pub line_answers : List LineAnswer
 
--- with one more payment for a worker
-abbrev pub given : List (List RouteRequest) → ℕ → RouteRequest → List (List RouteRequest)
-given lists worker request = slice_set lists worker (slice_index_or lists worker [] ++ request ∷ [])
+-- lists with one more item in one of them
+abbrev pub given : {T : Type 0} → List (List T) → ℕ → T → List (List T)
+given lists place item = slice_set lists place (slice_index_or lists place [] ++ item ∷ [])
 
 abbrev pub with_slot : Gathered → LineAnswer → Gathered
 with_slot so_far line_answer = record so_far { line_answers = so_far.line_answers ++ line_answer ∷ [] }
