@@ -10,7 +10,7 @@ use Rattle.lgm_graph.specs.declared.overlay.ExtraEdge.{ExtraEdge}
 use Rattle.lgm_graph.specs.declared.overlay.Limit.{Limit}
 use Rattle.lgm_graph.specs.declared.route.Hop.{Hop}
 use Rattle.lgm_graph.specs.Estimates.{Entries}
-use Rattle.lgm_route.specs.Preferred.{penalty_at, preferred_answer, no_preferences, IsSomeRoute, IsBeyond, IsBounded, IsUsedUp}
+use Rattle.lgm_route.specs.Preferred.{penalty_at, preferred_answer, no_preferences, no_limits, IsSomeRoute, IsBeyond, IsUsedUp}
 use Rattle.lgm_route.specs.declared.fault.RouteFault.{RouteFault}
 use Rattle.lgm_route.specs.declared.limits.RouteLimits.{RouteLimits}
 use Rattle.lgm_route.specs.declared.limits.SearchBudget.{SearchBudget}
@@ -209,11 +209,12 @@ abbrev pub explained_number : Option NoRouteReason → ℕ
 explained_number (Some reason) = reason_number reason
 explained_number None = 0
 
--- the number of why there is no route over these edges, or that memory or the budget ran out
+-- the number of why there is no route over these edges, or that memory ran out, or the budget, which can run out without limits
 abbrev pub TellsReason : AttemptParts → List PointEdge → ℕ → Type 0
 TellsReason attempt edges status =
     ((found : Option NoRouteReason) × IsExplained found attempt.limits edges attempt.request × (status ≡ explained_number found))
-    ⊎ (status ≡ no_memory) ⊎ ((status ≡ number_of faults.Undecided) × IsBounded attempt.budget)
+    ⊎ (status ≡ no_memory)
+    ⊎ ((status ≡ number_of faults.Undecided) × IsUsedUp no_limits edges attempt.request attempt.budget)
 
 -- that, or why no route is searched for
 abbrev pub ExplainsIf : Option Fault → AttemptParts → List PointEdge → ℕ → Type 0

@@ -3,4 +3,5 @@ pub mod Handle
 pub mod Kinds
 pub mod Following
 pub mod Framing
+pub mod Messages
 pub mod Searching

@@ -11,8 +11,9 @@ ghost use Rattle.lgm_c.specs.Writing.{framed, all_framed, buffer};
 ghost use Rattle.lgm_c.specs.inner.Framing.{MayWrite};
 
 use crate::fault::Fault;
+use crate::messages::Messages;
 use crate::output::write_bytes;
-use lgm_query::{Backlog, Filter, MapDiff, News, ReplyMessage};
+use lgm_query::{Backlog, Filter, MapDiff, ReplyMessage};
 use lgm_store::Map;
 use lgm_timeline::Timeline;
 use std::alloc::{AllocError, Global};
@@ -34,31 +35,52 @@ fn with_frame(bytes: usize, message: &[u8]) -> Option<usize>
     bytes.checked_add(8)?.checked_add(message.len())
 }
 
-/// The number of bytes of replies, each after its length.
-fn replies_length(replies: &[ReplyMessage<'_>]) -> Option<usize>
-    ensures sum { IfSome result (λ sum. sum ≡ length (all_framed replies.now)) }
-    ensures none { IsNone result → 2 ^ 64 ≤ length (all_framed replies.now) }
+/// The number of bytes of messages, each after its length.
+fn framed_length(messages: Messages<'_, '_>) -> Option<usize>
+    ensures sum { IfSome result (λ sum. sum ≡ length (all_framed messages.entry)) }
+    ensures none { IsNone result → 2 ^ 64 ≤ length (all_framed messages.entry) }
 {
     let mut sum = 0;
-    for reply in replies {
-        sum = with_frame(sum, reply.as_slice())?;
+    for message in messages {
+        sum = with_frame(sum, message)?;
     }
     Some(sum)
 }
 
-/// Replies, each after its length, this many bytes.
-fn frame_replies(
-    alloc: Global,
-    replies: &[ReplyMessage<'_>],
-    bytes: usize,
-) -> Result<Vec<u8>, AllocError>
-    ensures { IfOk result (λ written. written.items ≡ all_framed replies.now) }
+/// Messages, each after its length, this many bytes.
+fn frame_all(alloc: Global, messages: Messages<'_, '_>, bytes: usize) -> Result<Vec<u8>, AllocError>
+    ensures { IfOk result (λ written. written.items ≡ all_framed messages.entry) }
 {
     let mut written = Vec::with_capacity(alloc, bytes)?;
-    for reply in replies {
-        frame(&mut written, reply.as_slice())?;
+    for message in messages {
+        frame(&mut written, message)?;
     }
     Ok(written)
+}
+
+/// Writes messages, which were counted, each after its length, if the buffer has room for them, and the length of all in any
+/// case. Out of memory changes nothing.
+fn write_messages(
+    alloc: Global,
+    counted: Messages<'_, '_>,
+    messages: Messages<'_, '_>,
+    room: &mut [u8],
+    needed: &mut usize,
+) -> Result<(), Fault>
+    requires { counted ≡ messages }
+    ensures { MayWrite (all_framed messages.entry) (status_of result)
+        (buffer room.old needed.old) (buffer room.new needed.new) }
+{
+    // No answer has 2^64 bytes.
+    let Some(bytes) = framed_length(counted) else {
+        return Err(Fault::NoMemory);
+    };
+    if room.len() < bytes {
+        *needed = bytes;
+        return Err(Fault::Room);
+    }
+    let framed = frame_all(alloc, messages, bytes)?;
+    write_bytes(&framed, room, needed)
 }
 
 /// Writes replies, each after its length, if the buffer has room for them, and the length of all in any case. Out of memory
@@ -72,39 +94,9 @@ pub(crate) fn write_replies(
     ensures { MayWrite (all_framed replies.now) (status_of result)
         (buffer room.old needed.old) (buffer room.new needed.new) }
 {
-    // No answer has 2^64 bytes.
-    let Some(bytes) = replies_length(replies) else {
-        return Err(Fault::NoMemory);
-    };
-    if room.len() < bytes {
-        *needed = bytes;
-        return Err(Fault::Room);
-    }
-    let framed = frame_replies(alloc, replies, bytes)?;
-    write_bytes(&framed, room, needed)
-}
-
-/// The number of bytes of what passes a filter, each message after its length.
-fn backlog_length(backlog: Backlog<'_>) -> Option<usize>
-    ensures sum { IfSome result (λ sum. sum ≡ length (all_framed backlog.entry)) }
-    ensures none { IsNone result → 2 ^ 64 ≤ length (all_framed backlog.entry) }
-{
-    let mut sum = 0;
-    for message in backlog {
-        sum = with_frame(sum, message)?;
-    }
-    Some(sum)
-}
-
-/// What passes a filter, each message after its length, this many bytes.
-fn frame_backlog(alloc: Global, backlog: Backlog<'_>, bytes: usize) -> Result<Vec<u8>, AllocError>
-    ensures { IfOk result (λ written. written.items ≡ all_framed backlog.entry) }
-{
-    let mut written = Vec::with_capacity(alloc, bytes)?;
-    for message in backlog {
-        frame(&mut written, message)?;
-    }
-    Ok(written)
+    let counted = Messages::of_replies(replies);
+    let messages = Messages::of_replies(replies);
+    write_messages(alloc, counted, messages, room, needed)
 }
 
 /// Writes what passes a filter, as [`write_replies`] does.
@@ -118,16 +110,9 @@ pub(crate) fn write_backlog(
     ensures { MayWrite (all_framed (backlog map.now filter.now)) (status_of result)
         (buffer room.old needed.old) (buffer room.new needed.new) }
 {
-    // No map has 2^64 bytes.
-    let Some(bytes) = backlog_length(Backlog::of(map, filter)) else {
-        return Err(Fault::NoMemory);
-    };
-    if room.len() < bytes {
-        *needed = bytes;
-        return Err(Fault::Room);
-    }
-    let framed = frame_backlog(alloc, Backlog::of(map, filter), bytes)?;
-    write_bytes(&framed, room, needed)
+    let counted = Messages::of_backlog(Backlog::of(map, filter));
+    let messages = Messages::of_backlog(Backlog::of(map, filter));
+    write_messages(alloc, counted, messages, room, needed)
 }
 
 /// Writes what is news where there was nothing before: all that passes a filter.
@@ -144,29 +129,6 @@ pub(crate) fn write_first_news(
     write_backlog(alloc, map, filter, room, needed)
 }
 
-/// The number of bytes of news, each message after its length.
-fn news_length(news: News<'_, '_>) -> Option<usize>
-    ensures sum { IfSome result (λ sum. sum ≡ length (all_framed news.entry)) }
-    ensures none { IsNone result → 2 ^ 64 ≤ length (all_framed news.entry) }
-{
-    let mut sum = 0;
-    for message in news {
-        sum = with_frame(sum, message)?;
-    }
-    Some(sum)
-}
-
-/// News, each message after its length, this many bytes.
-fn frame_news(alloc: Global, news: News<'_, '_>, bytes: usize) -> Result<Vec<u8>, AllocError>
-    ensures { IfOk result (λ written. written.items ≡ all_framed news.entry) }
-{
-    let mut written = Vec::with_capacity(alloc, bytes)?;
-    for message in news {
-        frame(&mut written, message)?;
-    }
-    Ok(written)
-}
-
 /// Writes the news between two maps, as [`write_replies`] does.
 fn write_news(
     alloc: Global,
@@ -178,16 +140,9 @@ fn write_news(
     ensures { MayWrite (all_framed (news map_diff.now.before map_diff.now.after filter.now)) (status_of result)
         (buffer room.old needed.old) (buffer room.new needed.new) }
 {
-    // No map has 2^64 bytes.
-    let Some(bytes) = news_length(map_diff.news(filter)) else {
-        return Err(Fault::NoMemory);
-    };
-    if room.len() < bytes {
-        *needed = bytes;
-        return Err(Fault::Room);
-    }
-    let framed = frame_news(alloc, map_diff.news(filter), bytes)?;
-    write_bytes(&framed, room, needed)
+    let counted = Messages::of_news(map_diff.news(filter));
+    let messages = Messages::of_news(map_diff.news(filter));
+    write_messages(alloc, counted, messages, room, needed)
 }
 
 /// Writes the news since the mark of a map that changes, as [`write_replies`] does.

@@ -24,6 +24,7 @@ mod handle;
 mod lgm_map;
 mod listing;
 mod lookups;
+mod messages;
 mod output;
 mod publications;
 mod queries;

@@ -1,12 +1,11 @@
 //! Messages, closes and bans, offered to a map that changes.
 
 ghost use Rattle.std.specs.Prelude.{◌≡◌, Ok, IfOk, IfErr, OnOk, OnErr};
-ghost use Rattle.lgm_gossip.specs.Memory.{GivesIf, TakesMemory};
-ghost use Rattle.lgm_store.specs.Admission.{admitted_close};
+ghost use Rattle.lgm_gossip.specs.Memory.{TakesMemory};
+ghost use Rattle.lgm_store.specs.Admission.{admitted_close, verdict_of};
 ghost use Rattle.lgm_timeline.specs.Timeline.{newest, Advances, RefusesOrRunsOut};
-ghost use Rattle.lgm_c.specs.inner.Following.{Refuses, Follows};
+ghost use Rattle.lgm_c.specs.inner.Following.{Fails, Refuses, Follows};
 ghost use Rattle.lgm_c.specs.Offering.{offered_to, admitted_ban};
-ghost use Rattle.lgm_c.specs.Status.{MayRunOut};
 
 use lgm_check::{BanRow, Evidence, Refusal, precheck};
 use lgm_gossip::{ChainHash, Point, Scid};
@@ -14,20 +13,20 @@ use lgm_store::{CheckedMessage, Hint, Map, Op, Shared};
 use lgm_timeline::Timeline;
 use std::alloc::Global;
 
-/// The operation of a message, or its first refusal. Memory is allocated only for the operation, and by decoding.
-fn judge(
+/// Whether a message is accepted with these verdicts. Memory is allocated only by decoding.
+pub(crate) fn verdict(
     alloc: Global,
-    map: &Map,
     chain: &ChainHash,
+    map: &Map,
     bytes: &[u8],
     evidence: &Evidence,
-) -> Result<Op, Refusal>
-    ensures { GivesIf
-        (MayRunOut (TakesMemory bytes.now) (offered_to chain.now map.now bytes.now evidence.now))
-        Refusal.NoMemory (λ op. op) result (offered_to chain.now map.now bytes.now evidence.now) }
+) -> Result<(), Refusal>
+    ensures accepted { OnOk result (verdict_of (offered_to chain.now map.now bytes.now evidence.now) ≡ Ok tt) }
+    ensures refused { IfErr result (λ refusal. Fails (TakesMemory bytes.now)
+        (offered_to chain.now map.now bytes.now evidence.now) refusal) }
 {
     let checked = precheck(alloc, chain, bytes, evidence)?;
-    map.admit(alloc, &checked)
+    map.verdict(&checked)
 }
 
 /// The answer to a message that can't be applied since memory ran out: its refusal, or out of memory if it has none.
@@ -41,8 +40,10 @@ fn refusal_without_memory(
     ensures { Refuses (TakesMemory bytes.now)
         (offered_to chain.now map.now bytes.now evidence.now) result }
 {
-    let refusal = judge(alloc, map, chain, bytes, evidence).err();
-    refusal.unwrap_or(Refusal::NoMemory)
+    match verdict(alloc, chain, map, bytes, evidence) {
+        Ok(()) => Refusal::NoMemory,
+        Err(refusal) => refusal,
+    }
 }
 
 /// The operation that bans a node, unless it is banned. A refusal allocates nothing.
@@ -114,8 +115,7 @@ pub(crate) fn close(alloc: Global, timeline: &mut Timeline, scid: Scid) -> Resul
         (newest timeline.old) (newest timeline.new) }
     ensures marked { timeline.new.marked ≡ timeline.old.marked }
 {
-    let op = timeline.network().map().admit_close(scid)?;
-    Ok(timeline.absorb(alloc, op)?)
+    timeline.offer_close(alloc, scid)
 }
 
 /// Bans a node. A refusal or out of memory changes nothing.

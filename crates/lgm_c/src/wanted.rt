@@ -1,17 +1,14 @@
 //! Whether a message is worth verifying.
 
-ghost use Rattle.std.specs.Prelude.{◌≡◌, Ok, IfErr, OnOk};
-ghost use Rattle.lgm_gossip.specs.Memory.{TakesMemory};
-ghost use Rattle.lgm_store.specs.Admission.{verdict_of};
+ghost use Rattle.std.specs.Prelude.{◌≡◌};
 ghost use Rattle.lgm_store.specs.Rows.{channel_of};
-ghost use Rattle.lgm_c.specs.inner.Following.{Fails};
-ghost use Rattle.lgm_c.specs.Offering.{offered_to};
 ghost use Rattle.lgm_c.specs.Status.{status_of};
 ghost use Rattle.lgm_c.specs.Wanting.{signed_by, setter_in, right_verdicts, key_in, TellsOf, Wants, NoneMends};
 
 use crate::fault::{Fault, status};
 use crate::lgm_map::{LgmMap, with_state};
-use lgm_check::{Evidence, Funding, Refusal, Sig, precheck};
+use crate::verdict::verdict;
+use lgm_check::{Evidence, Funding, Sig};
 use lgm_gossip::{ChainHash, ChannelUpdate, Layout, NodeAnnounce, Point, Scid, layout_of};
 use lgm_store::Map;
 use std::alloc::Global;
@@ -53,22 +50,6 @@ fn right_verdicts(map: &Map, bytes: &[u8], other: Point) -> Evidence
         Layout::Node => signed_by(NodeAnnounce::in_bytes(bytes).node_id),
         Layout::Other => signed_by(other),
     }
-}
-
-/// Whether a message is accepted with these verdicts. Memory is allocated only by decoding.
-fn verdict(
-    alloc: Global,
-    chain: &ChainHash,
-    map: &Map,
-    bytes: &[u8],
-    evidence: &Evidence,
-) -> Result<(), Refusal>
-    ensures accepted { OnOk result (verdict_of (offered_to chain.now map.now bytes.now evidence.now) ≡ Ok tt) }
-    ensures refused { IfErr result (λ refusal. Fails (TakesMemory bytes.now)
-        (offered_to chain.now map.now bytes.now evidence.now) refusal) }
-{
-    let checked = precheck(alloc, chain, bytes, evidence)?;
-    map.verdict(&checked)
 }
 
 /// Writes the key whose signature is to be verified, if the message would be accepted with the right verdicts.

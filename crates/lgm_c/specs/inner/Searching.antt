@@ -36,7 +36,7 @@ IsRouted attempt known rows =
 -- why there is no route for an attempt, if there is none, or why that isn't known
 abbrev pub IsReasonFound : AttemptParts → Option (List ℕ) → Rows → Result (Option NoRouteReason) SearchFault → Type 0
 IsReasonFound attempt known rows (Ok found) = IsExplained found attempt.limits (edges_for attempt known rows) attempt.request
-IsReasonFound attempt known rows (Err fault) = IsUnexplained attempt.request attempt.budget fault
+IsReasonFound attempt known rows (Err fault) = IsUnexplained (edges_for attempt known rows) attempt.request attempt.budget fault
 
 -- its number, or that of the fault
 abbrev pub number_found : Result (Option NoRouteReason) SearchFault → ℕ
