@@ -14,7 +14,7 @@ from gossip.messages import CHAIN, CHANNEL_UPDATE, decode, kind_of
 from gossip.networks import Network as MadeNetwork
 from gossip.notation import SECRET
 from gossip.workloads import SLOWEST, WORKLOADS
-from plain_overlays import Channel, Network, Update, opened, point, scid, steps_in
+from plain_overlays import Channel, Network, Update, extra_edge, opened, point, scid, steps_in
 from plain_walks import EXPIRY, MOST_AMOUNT, MOST_CHANNELS, Estimate, Payment, Preferences, Road, Terms, delay, preferred, usable
 
 SECONDS = 2  # of CPU time, for a payment that is to take less than 0.2
@@ -176,6 +176,35 @@ def budget_faults():
             yield f"with one step {found}, and neither undecided nor the only route, which isn't called the best"
 
 
+def step_faults():
+    """What is wrong where labels are compared with those that a later one dominates. Nodes 1 and 2 charge as much as they pass
+    on, so the first walk, over them, sends 4,000 msat. It takes no step, and leaves a label at each. Of the channels from node 4
+    each charges less than the one before, so each label over one dominates the last. There are 13 steps: a comparison for each
+    label that is settled, the payee's, that of node 2 and the cheapest one of node 4; four edges into the payee, one into node 2 and
+    one into node 4; a comparison for each new label of nodes 2 and 1; and one each for the second and the third label of node 4,
+    with the one before."""
+    full = Terms(base=0, millionths=1_000_000)
+    roads = [road(1, 0, 1), Road(2, 1, 2, full), Road(3, 2, 5, full), road(4, 0, 4), road(5, 4, 5, 2_700),
+             road(6, 4, 5, 2_600), road(7, 4, 5, 2_500)]
+    case = Case("", roads, [4, 7], 3_500, known={(3, 2): Estimate(least=1)}, payment=Payment(0, 5, 1_000))
+    with opened(network_of(roads), None) as network:
+        for steps, wanted in ((13, (True, 3_500)), (12, (False, 4_000))):
+            route = asked(case, network, most_steps=steps)
+            if (route.is_best, route.sent_msat) != wanted:
+                yield f"with {steps} steps {route}"
+
+
+def overlay_faults():
+    """What is wrong where one step is all that a search may take, and the first walk, which takes none, leads over an edge
+    beside the map's. The payee's list of edges isn't in the order of their ids then, whichever of these two comes first."""
+    case = Case("", [road(1, 0, 1), road(5, 3, 2)], [], 1_000, FAILURE)
+    with opened(network_of(case.roads), None) as network:
+        for block in (2, 9):
+            found = asked(case, network, most_steps=1, edges=[extra_edge(road(block, 1, 2))])
+            if found == "undecided" or [hop.scid for hop in found.hops] != [scid(1), scid(block)]:
+                yield f"with one step and channel {block} beside the map {found}"
+
+
 def opened_hostile(hostile):
     """The library's map of a hostile network."""
     network = lgm.Map(CHAIN)
@@ -252,6 +281,8 @@ def run():
     """Runs all of them. How many passed, and how many failed, of which it prints what is wrong."""
     tests = {case.sentence: case_faults(case) for case in CASES}
     tests["a budget of one label, and of one step"] = list(budget_faults())
+    tests["steps of a search whose labels are dominated"] = list(step_faults())
+    tests["a first walk over an edge beside the map"] = list(overlay_faults())
     tests["which walks of a hostile network fit"] = list(small_faults())
     for links, sides in ((10, 500), (13, 30)):
         for least_fee in (None, 1, 2 ** (links - 1)):
