@@ -5,7 +5,6 @@ ghost use Rattle.lgm_graph.specs.Graph.{IsGraphOf, point_edges};
 ghost use Rattle.lgm_graph.specs.Overlay.{overlaid_edges};
 ghost use Rattle.lgm_route.specs.Reasons.{HasRoute, HasNone, IsExplained, IsReason, IsUnexplained, NoneBefore};
 ghost use Rattle.lgm_route.specs.Reasons.{delay_alone, hops_alone};
-ghost use Rattle.lgm_route.specs.Preferred.{no_preferences};
 ghost use Rattle.lgm_route.specs.inner.Seeking.{unless_no_route};
 ghost use Rattle.lgm_route.specs.declared.limits.RouteLimits.{RouteLimits as Limits};
 

@@ -3,7 +3,6 @@ use Rattle.std.specs.Prelude.{◌≡◌, ℕ, ◌+◌, ◌<◌, ◌≤◌, List,
 use Rattle.std.specs.List.{AllByRecursion}
 use Rattle.lgm_script.specs.declared.line_form.LineKind.{LineKind}
 use Rattle.lgm_script.specs.declared.line_form.LineKind.TheVariants.{Item, Question, Other}
-use Rattle.lgm_script.specs.declared.line_reader.TheConstants.{MAX_LINE}
 use Rattle.lgm_script.specs.declared.command.Command.{Command}
 use Rattle.lgm_script.specs.declared.command.Command.TheVariants as requests
 use Rattle.lgm_script.specs.Command.{command_of}
@@ -20,7 +19,7 @@ AreFirstLines buffered left (line ∷ lines) rest =
 pub record AreNext (buffered : List ℕ) (first len : ℕ) (lines : List (List ℕ)) : Type 0 where
   pub some : 0 < length lines
   pub few : len ≤ length buffered
-  pub short : AllByRecursion (λ line. length line ≤ MAX_LINE) lines
+  pub short : AllByRecursion (λ line. length line ≤ 140000) lines
   pub front : (left : Option (List ℕ)) → IsFirstLine buffered left first
       → AreFirstLines buffered left lines (drop len buffered)
 

@@ -1,7 +1,7 @@
-use Rattle.std.proofs.Common.{◌≡◌, ◌∙◌, ap, subst, inr}
+use Rattle.std.proofs.Common.{◌≡◌, ◌∙◌, ap, subst}
 use Rattle.std.specs.Prelude.{Err}
 use Rattle.std.proofs.lemmas.Result.{err_from_is_err_and}
-use Rattle.lgm_graph.specs.Graph.{edges, point_edges}
+use Rattle.lgm_graph.specs.Graph.{edges}
 use Rattle.lgm_route.specs.Routes.{hops_of}
 use Rattle.lgm_route.specs.Preferred.{IsCutShort}
 use Rattle.lgm_route.specs.inner.Numbered.{Ask, asked, IsUsable, IsLeast}
