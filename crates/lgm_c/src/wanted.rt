@@ -3,7 +3,7 @@
 ghost use Rattle.std.specs.Prelude.{◌≡◌};
 ghost use Rattle.lgm_store.specs.Rows.{channel_of};
 ghost use Rattle.lgm_c.specs.Status.{status_of};
-ghost use Rattle.lgm_c.specs.Wanting.{signed_by, setter_in, right_verdicts, key_in, TellsOf, Wants, NoneMends};
+ghost use Rattle.lgm_c.specs.Wanting.{signed_by, setter_in, right_verdicts, TellsOf, Wants, NoneMends};
 
 use crate::fault::{Fault, status};
 use crate::lgm_map::{LgmMap, with_state};

@@ -7,7 +7,7 @@ use Rattle.lgm_script.specs.declared.line_reader.TheConstants.{MAX_LINE}
 use Rattle.lgm_script.specs.declared.command.Command.{Command}
 use Rattle.lgm_script.specs.Lines.{IsFirstLine}
 use Rattle.lgm_script.specs.Command.{command_of}
-use Rattle.lgm_script.specs.Groups.{AreFirstLines, AreNext, AskNext}
+use Rattle.lgm_script.specs.Groups.{AreFirstLines, AskNext}
 
 -- what is left after the first bytes, if there are as many
 drop_least : (n : ℕ) (bytes : List ℕ) → drop (min (length bytes) n) bytes ≡ drop n bytes

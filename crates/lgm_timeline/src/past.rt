@@ -1,6 +1,6 @@
 //! What is kept of the past of a map.
 
-ghost use Rattle.std.specs.Prelude.{◌≡◌, ◌⊎◌, ◌-◌, ◌+◌, ◌^◌, ◌<◌, ◌≤◌, [], ℕ, length, IsTrue, IsFalse, IsNone, IsSome, IsSomeAnd, IfOk, IfSome, OnOk};
+ghost use Rattle.std.specs.Prelude.{◌≡◌, ◌-◌, ◌^◌, ◌<◌, ◌≤◌, [], ℕ, length, IsTrue, IsFalse, IsNone, IsSome, IsSomeAnd, IfOk, IfSome, OnOk};
 ghost use Rattle.lgm_store.specs.History.{absorbed};
 ghost use Rattle.lgm_graph.specs.Network.{NetworkState};
 ghost use Rattle.lgm_timeline.specs.History.{end, moment, next_position, most_kept, LeadsFrom};

@@ -11,7 +11,7 @@ use Rattle.lgm_store.proofs.Lists.{lookup-node}
 use Rattle.lgm_store.proofs.StoredUpdateLaws.{node-kept, node-rows}
 use Rattle.lgm_store.proofs.map.Opened.{opened}
 use Rattle.lgm_store.proofs.map.Map.add_node.Goals as goal
-use Rattle.lgm_store.proofs.map.Map.add_node.Goals.{In_ok-put_newer, Else-not-branch}
+use Rattle.lgm_store.proofs.map.Map.add_node.Goals.{In_ok-put_newer}
 
 own : (c : In_ok-put_newer) → c.node-node.result ≡ point_of c.args.row.now
 own c = c.node-node.ensures ∙ ap point_of c.get.ensures
