@@ -1,6 +1,6 @@
 //! A numbered node, with its edges.
 
-ghost use Rattle.std.specs.Prelude.{◌≡◌, ◌++◌, ◌∷◌, [], filter, map, IfOk, OnOk};
+ghost use Rattle.std.specs.Prelude.{◌≡◌, ◌++◌, ◌∷◌, [], filter, OnOk};
 ghost use Rattle.lgm_graph.specs.Graph.{bare_node, open_into};
 ghost use Rattle.lgm_graph.specs.inner.Lists.{edge_key, IsCut, put_at};
 ghost use Rattle.lgm_graph.specs.inner.Sound.{node_in, into_changed, out_changed, kept_in, HasRoomInto, HasRoomOut};
@@ -31,17 +31,6 @@ impl Node {
             into: Vec::new(alloc),
             out: Vec::new(alloc),
         }
-    }
-
-    /// A copy. The only error is out of memory.
-    fn copy(&self, alloc: Global) -> Result<Node, AllocError>
-        ensures { IfOk result (λ copy. node_in copy ≡ node_in self.now) }
-    {
-        Ok(Node {
-            accepts_payments: self.accepts_payments,
-            into: Vec::from_slice(alloc, &self.into)?,
-            out: Vec::from_slice(alloc, &self.out)?,
-        })
     }
 
     /// The edges that payments can take into it.
@@ -180,15 +169,4 @@ impl Node {
         drop_banned(&mut self.into, points, stored);
         drop_banned(&mut self.out, points, stored);
     }
-}
-
-/// Copies of nodes. The only error is out of memory.
-pub(crate) fn copies(alloc: Global, nodes: &[Node]) -> Result<Vec<Node>, AllocError>
-    ensures { IfOk result (λ copies. map node_in copies.items ≡ map node_in nodes.now) }
-{
-    let mut copies = Vec::with_capacity(alloc, nodes.len())?;
-    for node in nodes {
-        copies.push(node.copy(alloc)?)?;
-    }
-    Ok(copies)
 }

@@ -1,7 +1,7 @@
 //! Numbered nodes, and the edges of each.
 
 ghost use Rattle.std.specs.Prelude.{◌≡◌, ◌++◌, ◌∷◌, [], ℕ, ◌+◌, ◌<◌, List, length, map, slice_index_or};
-ghost use Rattle.std.specs.Prelude.{OnOk, IfOk, Option, true, false, ◌≤◌};
+ghost use Rattle.std.specs.Prelude.{OnOk, Option, true, false, ◌≤◌};
 ghost use Rattle.std.specs.List.{HoldsAt, list_any};
 ghost use Rattle.indexmap.specs.IndexSet.{hasher_of, spare};
 ghost use Rattle.lgm_wire.specs.declared.point.Point.{Point as APoint};
@@ -15,7 +15,6 @@ ghost use Rattle.lgm_graph.specs.inner.Sound.{changed_at, checked_at, edge_chang
 
 use crate::edge::Edge;
 use crate::known::Known;
-use crate::node;
 use crate::node::Node;
 use indexmap::IndexSet;
 use lgm_gossip::{Point, Scid};
@@ -53,17 +52,6 @@ impl Nodes {
             points: IndexSet::with_hasher(alloc, seed),
             nodes: Vec::new(alloc),
         }
-    }
-
-    /// A copy with the same graph. The only error is out of memory.
-    pub(crate) fn copy(&self, alloc: Global) -> Result<Nodes, AllocError>
-        ensures { (known : Option (List ℕ))
-            → IfOk result (λ copy. graph_in known copy ≡ graph_in known self.now) }
-    {
-        Ok(Nodes {
-            points: self.points.clone()?,
-            nodes: node::copies(alloc, &self.nodes)?,
-        })
     }
 
     /// The number of a numbered point.

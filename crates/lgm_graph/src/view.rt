@@ -184,21 +184,6 @@ impl View {
         *self.parts.nodes.points.hasher()
     }
 
-    /// A copy with the same graph. The only error is out of memory.
-    pub fn copy(&self, alloc: Global) -> Result<View, AllocError>
-        ensures { IfOk result (λ copy. copy ≡ self.now) }
-    {
-        let parts = &*self.parts;
-        let copy = Parts {
-            alloc,
-            known: parts.known.copy(alloc)?,
-            nodes: parts.nodes.copy(alloc)?,
-        };
-        Ok(View {
-            parts: Box::new(alloc, copy)?,
-        })
-    }
-
     /// Applies an operation to a map and its view, which is then the view of the new map. It numbers at most two more
     /// points, and a point keeps its number when its last channel is removed. The only error is out of memory, which
     /// leaves map and view unchanged.

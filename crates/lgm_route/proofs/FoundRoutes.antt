@@ -1,8 +1,8 @@
 -- What a search found, as the answer of a call.
-use Rattle.std.proofs.Common.{◌≡◌, ℕ, ◌+◌, ◌≤◌, Bool, true, false, List, [], ◌∷◌, length, refl, sym, ◌∙◌, ap, subst, inl, inr, arith}
+use Rattle.std.proofs.Common.{◌≡◌, ℕ, ◌+◌, ◌≤◌, ◌⊎◌, Bool, true, false, List, [], ◌∷◌, length, refl, sym, ◌∙◌, ap, subst, inl, inr, arith}
 use Rattle.std.specs.Prelude.{nat_le, ◌&&◌, Option, Some, None, Result, Ok, Err}
 use Rattle.std.specs.List.{position}
-use Rattle.std.proofs.lemmas.Bool.{false≢true}
+use Rattle.std.proofs.lemmas.Bool.{false≢true, and_parts}
 use Rattle.std.proofs.lemmas.Option.{slice_get-get_or}
 use Rattle.lgm_wire.specs.declared.point.Point.{Point}
 use Rattle.lgm_store.specs.Rows.{is_point}
@@ -15,19 +15,20 @@ use Rattle.lgm_graph.specs.declared.route.Hop.{Hop}
 use Rattle.lgm_route.specs.declared.request.Request.{Request}
 use Rattle.lgm_route.specs.declared.limits.RouteLimits.{RouteLimits}
 use Rattle.lgm_route.specs.declared.fault.RouteFault.{RouteFault}
-use Rattle.lgm_route.specs.declared.fault.RouteFault.TheVariants.{NoRoute}
+use Rattle.lgm_route.specs.declared.fault.RouteFault.TheVariants.{NoRoute, NoMemory}
+use Rattle.lgm_route.specs.declared.found.Found.{Found}
 use Rattle.lgm_route.specs.declared.found.SearchFault.{SearchFault}
 use Rattle.lgm_route.specs.declared.found.SearchFault.TheVariants.{Fault, Undecided}
 use Rattle.lgm_route.specs.Answers.{refusal, IsAnswer, IsAnswerBy}
 use Rattle.lgm_route.specs.Routes.{due, hops_of}
-use Rattle.lgm_route.specs.Preferred.{delay, no_limits, IsFoundBy, IsPreferredBy, IsPreferredAnswer}
+use Rattle.lgm_route.specs.Preferred.{delay, no_limits, IsFoundBy, IsPreferredBy, IsPreferredAnswer, IsCutShort, IsUsedUp}
 use Rattle.lgm_route.specs.Preferred.{penalty_at, is_in_time, is_within, IsSomeRoute, IsRouteBy, IsBeyond}
 use Rattle.lgm_route.specs.inner.Numbered as walks
 use Rattle.lgm_route.specs.Odds.{penalty_by}
 use Rattle.lgm_route.specs.declared.preferences.Preferences.{Preferences}
 use Rattle.lgm_route.specs.inner.Numbered.{Ask, Terms, known_from}
-use Rattle.lgm_route.specs.inner.Best.{AreAlike, IsFree, edges_in, ask_of, is_timely, hops_within, IsWalkFound}
-use Rattle.lgm_route.proofs.PointWalkLaws.{usable_over, within_over, least_over, none_over, free_found, within_none}
+use Rattle.lgm_route.specs.inner.Best.{AreAlike, IsFree, free, edges_in, ask_of, is_timely, hops_within, IsWalkFound, is_settled, certain, any_budget}
+use Rattle.lgm_route.proofs.PointWalkLaws.{usable_over, within_over, least_over, none_over, found_free, within_none}
 use Rattle.lgm_route.proofs.HopLaws.{length_hops}
 use Rattle.lgm_route.proofs.PreferredLaws.{true_within, within_true}
 use Rattle.lgm_route.proofs.ChoiceLaws.{le_true, true_le}
@@ -157,29 +158,56 @@ some_narrowed limits edges request hops is within = (
   is.3,
 )
 
+-- what was found without limits is the answer within these, if it is settled
+pub answer_settled : (penalty : PointEdge → ℕ → ℕ) (limits : RouteLimits) (edges : List PointEdge) (request : Request)
+    (first : Result Found SearchFault) → is_settled limits request.expiry first ≡ true
+    → IsRouteBy (IsPreferredAnswer penalty no_limits edges request) no_limits edges request first
+    → IsRouteBy (IsPreferredAnswer penalty limits edges request) limits edges request first
+answer_settled penalty limits edges request (Ok found) settled is =
+    let within = (and_parts found.is_best (hops_within limits request.expiry found.route) settled).1 in (
+      λ best. answer_narrowed penalty limits edges request found.route (is.0 best) within,
+      some_narrowed limits edges request found.route is.1 within,
+      is.2,
+    )
+answer_settled penalty limits edges request (Err Undecided) settled is = absurd (false≢true settled)
+answer_settled penalty limits edges request (Err (Fault fault)) settled (inl e) = inl e
+answer_settled penalty limits edges request (Err (Fault fault)) settled (inr is) =
+    inr (fault_narrowed penalty limits edges request fault is)
+
+-- and not cut short
+pub settled_whole : (limits : RouteLimits) (height : ℕ) (first : Result Found SearchFault) → is_settled limits height first ≡ true
+    → IsCutShort first → ⊥
+settled_whole limits height (Ok found) settled cut =
+    false≢true (sym cut ∙ (and_parts found.is_best (hops_within limits height found.route) settled).0)
+settled_whole limits height (Err Undecided) settled cut = false≢true settled
+settled_whole limits height (Err (Fault fault)) settled cut = cut
+
 -- ---- without penalties
 
--- the answer of a payer that prefers nothing
-pub plain_answer : (penalty : PointEdge → ℕ → ℕ) → IsFree penalty → (edges : List PointEdge) (request : Request)
-    (answer : Result (List Hop) RouteFault) → IsAnswer edges request answer → IsPreferredAnswer penalty no_limits edges request answer
-plain_answer penalty free edges request answer is = by (refusal request) is
+-- the answer of a payer that prefers nothing is the one of the walk that sends least
+answer_plain : (penalty : PointEdge → ℕ → ℕ) → IsFree penalty → (edges : List PointEdge) (request : Request)
+    (answer : Result (List Hop) RouteFault) → IsPreferredAnswer penalty no_limits edges request answer → IsAnswer edges request answer
+answer_plain penalty free edges request answer is = by (refusal request) is
   where
-    by : (o : Option RouteFault) → IsAnswerBy o edges request answer → IsPreferredBy o penalty no_limits edges request answer
+    by : (o : Option RouteFault) → IsPreferredBy o penalty no_limits edges request answer → IsAnswerBy o edges request answer
     by (Some fault) is = is
-    by None is = free_found penalty free edges request answer is
+    by None is = found_free penalty free edges request answer is
 
--- an answer with hops isn't refused, and is a usable walk
-pub plain_some : (edges : List PointEdge) (request : Request) (hops : List Hop) → IsAnswer edges request (Ok hops)
-    → IsSomeRoute no_limits edges request hops × (refusal request ≡ None)
-plain_some edges request hops is = by (refusal request) refl is
-  where
-    by : (o : Option RouteFault) → refusal request ≡ o → IsAnswerBy o edges request (Ok hops)
-        → IsSomeRoute no_limits edges request hops × (refusal request ≡ None)
-    by (Some fault) e is = absurd cc
-    by None e is = ((is.0, is.1.usable, within_none edges request is.0 is.1.usable, is.2), e)
+sure_best : (found : Found) → (IsCutShort (Ok found) → ⊥) → found.is_best ≡ true
+sure_best found sure = elim found.is_best as (λ b. (b ≡ false → ⊥) → b ≡ true) [ true ↦ λ no. refl | false ↦ λ no. absurd (no refl) ] sure
+
+-- where the budget can't run out
+pub plain_found : (edges : List PointEdge) (request : Request) (found : Result Found SearchFault)
+    → IsRouteBy (IsPreferredAnswer free no_limits edges request) no_limits edges request found → (IsCutShort found → ⊥)
+    → (certain found ≡ Err NoMemory) ⊎ IsAnswer edges request (certain found)
+plain_found edges request (Ok found) is sure =
+    inr (answer_plain free (λ edge amount. refl) edges request (Ok found.route) (is.0 (sure_best found sure)))
+plain_found edges request (Err Undecided) is sure = absurd (sure tt)
+plain_found edges request (Err (Fault fault)) (inl e) sure = inl (ap Err e)
+plain_found edges request (Err (Fault fault)) (inr is) sure = inr (answer_plain free (λ edge amount. refl) edges request (Err fault) is)
 
 -- the walk that sends least isn't within the limits
-pub plain_beyond : (limits : RouteLimits) (edges : List PointEdge) (request : Request) (hops : List Hop) → IsAnswer edges request (Ok hops)
+plain_beyond : (limits : RouteLimits) (edges : List PointEdge) (request : Request) (hops : List Hop) → IsAnswer edges request (Ok hops)
     → hops_within limits request.expiry hops ≡ false → IsBeyond limits edges request
 plain_beyond limits edges request hops is beyond = by (refusal request) is
   where
@@ -190,3 +218,20 @@ plain_beyond limits edges request hops is beyond = by (refusal request) is
       is.1,
       λ within. false≢true (sym beyond ∙ hops_same limits request is.0 hops is.2 is.1.usable.some ∙ within_true limits is.0 within),
     )
+
+-- so it is if what was found without limits isn't settled, and not cut short
+pub open_beyond : (penalty : PointEdge → ℕ → ℕ) → IsFree penalty → (limits : RouteLimits) (edges : List PointEdge) (request : Request)
+    (first : Result Found SearchFault) → is_settled limits request.expiry first ≡ false → (IsCutShort first → ⊥)
+    → IsRouteBy (IsPreferredAnswer penalty no_limits edges request) no_limits edges request first → IsBeyond limits edges request
+open_beyond penalty free limits edges request (Ok found) unsettled sure is =
+    let best = sure_best found sure in
+    plain_beyond limits edges request found.route
+    (answer_plain penalty free edges request (Ok found.route) (is.0 best))
+    (ap (λ b. b && hops_within limits request.expiry found.route) (sym best) ∙ unsettled)
+open_beyond penalty free limits edges request (Err Undecided) unsettled sure is = absurd (sure tt)
+open_beyond penalty free limits edges request (Err (Fault fault)) unsettled sure is = absurd (false≢true (sym unsettled))
+
+-- any number of labels and steps is never used up
+pub any_lasts : (limits : RouteLimits) (edges : List PointEdge) (request : Request) → IsUsedUp limits edges request any_budget → ⊥
+any_lasts limits edges request (inl is) = omega (arith, is.0)
+any_lasts limits edges request (inr steps) = omega (arith, steps)

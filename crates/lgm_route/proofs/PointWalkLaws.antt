@@ -1,5 +1,5 @@
 -- From numbered nodes to points: the walks over numbered edges are those over edges between points.
-use Rattle.std.proofs.Common.{◌≡◌, ◌⊎◌, ℕ, zero, suc, ◌+◌, ◌^◌, ◌<◌, ◌≤◌, List, [], Option, inl, inr}
+use Rattle.std.proofs.Common.{◌≡◌, ℕ, zero, suc, ◌+◌, ◌^◌, ◌<◌, ◌≤◌, List, [], Option, inl, inr}
 use Rattle.std.proofs.Common.{◌∷◌, length, get_or, map, Some, None, refl, sym, ◌∙◌, ap, subst, arith}
 use Rattle.std.specs.Prelude.{Contains, min}
 use Rattle.std.specs.List.{position}
@@ -20,7 +20,7 @@ use Rattle.lgm_route.specs.inner.Numbered as walks
 use Rattle.lgm_route.specs.inner.Best as numbers
 use Rattle.lgm_route.specs.declared.limits.SearchBudget.{SearchBudget}
 use Rattle.lgm_route.specs.inner.Best.{AreAlike, AreNumbered, IsFree, free, ask_of}
-use Rattle.lgm_route.specs.Answers.{refusal, IsAnswer, IsAnswerBy, IsFoundOver}
+use Rattle.lgm_route.specs.Answers.{IsFoundOver}
 use Rattle.lgm_route.specs.declared.limits.RouteLimits.{RouteLimits}
 use Rattle.lgm_route.specs.Preferred as preferred
 use Rattle.lgm_route.specs.Preferred.{IsInTime, IsWithin, no_limits, IsLeastBy, IsFoundBy, IsPreferred}
@@ -185,14 +185,6 @@ free_found penalty is edges request (Ok hops) found = (
   found.2,
 )
 free_found penalty is edges request (Err fault) found = (found.0, λ walk able within. found.1 walk able)
-
--- a call's answer
-pub free_answer : {E : Type 0} (edges : List PointEdge) (request : Request) (found : Result (List Hop) RouteFault)
-    → refusal request ≡ None → E ⊎ IsFoundBy free no_limits edges request found → E ⊎ IsAnswer edges request found
-free_answer edges request found allowed (inl e) = inl e
-free_answer edges request found allowed (inr is) =
-    inr (subst (λ o. IsAnswerBy o edges request found) (sym allowed)
-    (found_free free (λ edge amount. refl) edges request found is))
 
 -- ---- walks
 

@@ -1,19 +1,22 @@
 -- Exhaustive search finds the best walk by penalties, within limits, which is unique.
 use Rattle.std.proofs.Common.{◌≡◌, ◌≢◌, ℕ, ◌+◌, ◌-◌, ◌*◌, ◌/◌, ◌^◌, ◌≤◌, inl, inr, min, true, List, [], ◌∷◌, length, refl, sym, ◌∙◌, ap, subst, arith}
-use Rattle.std.proofs.lemmas.Bool.Decides.{nat_tests}
-use Rattle.std.specs.Prelude.{nat_le, nat_eq, ◌&&◌, Option, Some, None, Result, Ok, Err}
-use Rattle.std.specs.List.{fold}
+use Rattle.std.specs.Prelude.{nat_le, Option, Some, None, IfSome, Result, Ok, Err}
+use Rattle.std.specs.List.{All, fold}
+use Rattle.std.specs.Option.{unwrap_or}
+use Rattle.std.proofs.lemmas.Map.Entries.{All-lookup}
 use Rattle.std.specs.List.Sorted.{IsPermutation}
 use Rattle.std.proofs.Math.Nat.{min-le_left, min-le_right}
 use Rattle.std.proofs.lemmas.Bool.{and_parts}
 use Rattle.lgm_graph.specs.Edges.{PointEdge, AreKeyed}
-use Rattle.lgm_graph.specs.Estimates.{Entries}
+use Rattle.lgm_graph.specs.Estimates.{Entries, estimate_of, known_of, is_key, no_estimate}
+use Rattle.lgm_graph.specs.declared.estimate.Estimate.{Estimate}
 use Rattle.lgm_graph.specs.declared.route.Hop.{Hop}
 use Rattle.lgm_graph.proofs.Members.{Among, Among-passes, Among-passed}
 use Rattle.lgm_route.specs.declared.request.Request.{Request}
 use Rattle.lgm_route.specs.declared.limits.RouteLimits.{RouteLimits}
 use Rattle.lgm_route.specs.declared.limits.SearchBudget.{SearchBudget}
 use Rattle.lgm_route.specs.declared.preferences.Preferences.{Preferences}
+use Rattle.lgm_route.specs.declared.search.Search.{Search}
 use Rattle.lgm_route.specs.declared.fault.RouteFault.{RouteFault}
 use Rattle.lgm_route.specs.declared.found.Found.{Found}
 use Rattle.lgm_route.specs.declared.found.SearchFault.{SearchFault}
@@ -24,7 +27,7 @@ use Rattle.lgm_route.specs.Odds.{odds}
 use Rattle.lgm_route.specs.Choice.{usable_walks, lesser, least_of, found_by, answer_by, answer_of}
 use Rattle.lgm_route.specs.Preferred.{delay, IsInTime, IsWithin, no_limits, penalty_at, worth_key, IsPreferred, IsFoundBy}
 use Rattle.lgm_route.specs.Preferred.{IsPreferredBy, IsPreferredAnswer, is_in_time, is_within, walks_within, preferred_walk, preferred_answer}
-use Rattle.lgm_route.specs.Preferred.{IsRouteBy, IsRestWithin, IsUsedUp, IsBeyond, no_preferences}
+use Rattle.lgm_route.specs.Preferred.{IsRouteBy, IsRestWithin, IsUsedUp, IsBeyond, no_preferences, HasNoPenalty, PrefersNothing, penalty_for}
 use Rattle.lgm_route.specs.inner.Best.{IsFree}
 use Rattle.lgm_route.proofs.Orders.{NotAfter-excludes}
 use Rattle.lgm_route.proofs.Rests.{penalty_at-rises}
@@ -133,24 +136,30 @@ preferred-one preferences known limits edges request answer keyed is =
 
 -- ---- without preferences
 
-same_zero : (n : ℕ) → nat_eq n 0 ≡ true → n ≡ 0
-same_zero n h = grind (arith, nat_tests)
+known_free : (known : Option Estimate) → IfSome known (λ estimate. estimate.penalty ≡ 0) → (unwrap_or known no_estimate).penalty ≡ 0
+known_free None none = refl
+known_free (Some estimate) none = none
 
-pub free_of : (preferences : Preferences) (known : Entries)
-    → (nat_eq preferences.failure_msat 0 && nat_eq preferences.hop_msat 0) ≡ true → length known ≡ 0 → IsFree (penalty_at preferences known)
-free_of preferences (entry ∷ known) none few edge amount = absurd (omega arith)
-free_of preferences [] none few edge amount =
-    let p = and_parts (nat_eq preferences.failure_msat 0) (nat_eq preferences.hop_msat 0) none in
-    let failure = same_zero preferences.failure_msat p.0 in
-    let hop = same_zero preferences.hop_msat p.1 in
-    let room = min edge.max (2 ^ 64 - 1) - amount + 1 in
-    omega (arith, failure, hop, min-le_left (100 * preferences.failure_msat) (preferences.failure_msat * (amount - 0) / room))
+-- a payer that prefers nothing, and knows of no edge with a penalty, has no penalties
+nothing_free : (known : Entries) → All HasNoPenalty known → IsFree (penalty_at no_preferences known)
+nothing_free known none edge amount =
+    let estimate = estimate_of known edge.scid edge.from in
+    let flat : estimate.penalty ≡ 0 = known_free (known_of known edge.scid edge.from)
+    (All-lookup (λ estimate. estimate.penalty ≡ 0) (is_key edge.scid edge.from) known none) in
+    let room = min edge.max estimate.most - amount + 1 in
+    let odd : odds 0 estimate.least (min edge.max estimate.most) amount ≤ 0 = min-le_left 0 (0 * (amount - estimate.least) / room) in
+    omega (
+      arith,
+      flat,
+      odd,
+      min-le_right (2 ^ 40) (0 + estimate.penalty + odds 0 estimate.least (min edge.max estimate.most) amount),
+    )
 
--- a payer that prefers nothing and knows of no edge has no penalties
-pub nothing_free : IsFree (penalty_at no_preferences [])
-nothing_free edge amount =
-    let none : odds 0 0 (min edge.max (2 ^ 64 - 1)) amount ≤ 0 = min-le_left 0 (0 * (amount - 0) / (min edge.max (2 ^ 64 - 1) - amount + 1)) in
-    omega (arith, none, min-le_left (2 ^ 40) (0 + 0 + odds 0 0 (min edge.max (2 ^ 64 - 1)) amount))
+-- by how a route is sought
+pub plain_free : (search : Search) → PrefersNothing search → IsFree (penalty_for search)
+plain_free search is =
+    subst (λ (p : Preferences). IsFree (penalty_at p search.estimates.now)) (sym is.preferences)
+    (nothing_free search.estimates.now is.known)
 
 pub nothing : (edges : List PointEdge) (request : Request) → AreKeyed edges
     → preferred_answer (penalty_at no_preferences []) no_limits edges request ≡ answer_of edges request
@@ -160,7 +169,7 @@ nothing edges request keyed =
     by : (refused : Option RouteFault) → IsAnswerBy refused edges request (answer_of edges request)
         → IsPreferredBy refused (penalty_at no_preferences []) no_limits edges request (answer_of edges request)
     by (Some fault) is = is
-    by None is = free_found (penalty_at no_preferences []) nothing_free edges request (answer_of edges request) is
+    by None is = free_found (penalty_at no_preferences []) (nothing_free [] (λ i d few. absurd (omega arith))) edges request (answer_of edges request) is
 
 -- ---- over the same edges in another order
 

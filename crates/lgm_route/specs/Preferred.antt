@@ -6,11 +6,14 @@ use Rattle.std.specs.Cmp.Lexicographic.{slice_cmp}
 use Rattle.lgm_wire.specs.declared.point.Point.{Point}
 use Rattle.lgm_graph.specs.Edges.{PointEdge, AreKeyed}
 use Rattle.lgm_graph.specs.Estimates.{Entries, estimate_of}
+use Rattle.lgm_graph.specs.declared.estimate.EdgeKey.{EdgeKey}
+use Rattle.lgm_graph.specs.declared.estimate.Estimate.{Estimate}
 use Rattle.lgm_graph.specs.declared.route.Hop.{Hop}
 use Rattle.lgm_route.specs.declared.request.Request.{Request}
 use Rattle.lgm_route.specs.declared.limits.RouteLimits.{RouteLimits}
 use Rattle.lgm_route.specs.declared.limits.SearchBudget.{SearchBudget}
 use Rattle.lgm_route.specs.declared.preferences.Preferences.{Preferences}
+use Rattle.lgm_route.specs.declared.search.Search.{Search}
 use Rattle.lgm_route.specs.declared.fault.RouteFault.{RouteFault}
 use Rattle.lgm_route.specs.declared.fault.RouteFault.TheVariants.{NoRoute, NoMemory}
 use Rattle.lgm_route.specs.declared.found.Found.{Found}
@@ -49,6 +52,22 @@ no_limits = record { most_delay = None; most_hops = 20 }
 abbrev pub penalty_at : Preferences → Entries → PointEdge → ℕ → ℕ
 penalty_at preferences known edge amount =
     penalty_by preferences.failure_msat preferences.hop_msat (estimate_of known edge.scid edge.from) edge.max amount
+
+-- the same by how a route is sought
+abbrev pub penalty_for : Search → PointEdge → ℕ → ℕ
+penalty_for search = penalty_at search.preferences search.estimates.now
+
+-- no preferences
+abbrev pub no_preferences : Preferences
+no_preferences = record { failure_msat = 0; hop_msat = 0 }
+
+abbrev pub HasNoPenalty : (EdgeKey × Estimate) → Type 0
+HasNoPenalty entry = entry.1.penalty ≡ 0
+
+-- each edge costs its fee alone: nothing is preferred, and no edge of which something is known has a penalty
+pub record PrefersNothing (search : Search) : Type 0 where
+  pub preferences : search.preferences ≡ no_preferences
+  pub known : All HasNoPenalty search.estimates.now
 
 -- the penalties of these edges, each for what it carries
 abbrev pub penalties : (PointEdge → ℕ → ℕ) → ℕ → List PointEdge → ℕ
@@ -115,6 +134,10 @@ unfoldable pub preferred_answer : (PointEdge → ℕ → ℕ) → RouteLimits �
 preferred_answer penalty limits edges request =
     answer_by (refusal request) request (preferred_walk penalty limits edges request)
 
+-- the same by how a route is sought
+abbrev pub answer_for : Search → List PointEdge → Request → Result (List Hop) RouteFault
+answer_for search edges request = preferred_answer (penalty_for search) search.limits edges request
+
 -- ---- what a call returns
 
 -- the hops of a usable walk within the limits
@@ -179,11 +202,7 @@ pub record PreferredIsOne : Type 0 where
       → IsPreferredAnswer (penalty_at preferences known) limits edges request answer
       → answer ≡ preferred_answer (penalty_at preferences known) limits edges request
 
--- a payer that prefers nothing and knows of no edge
-abbrev pub no_preferences : Preferences
-no_preferences = record { failure_msat = 0; hop_msat = 0 }
-
--- its answer without limits is that of the walk that sends least
+-- the answer of a payer that prefers nothing and knows of no edge, without limits, is that of the walk that sends least
 abbrev pub NothingPreferred : Type 0
 NothingPreferred =
     (edges : List PointEdge) (request : Request) → AreKeyed edges

@@ -47,8 +47,8 @@ impl<'a, V: RoutingGraph, P: Penalties> Model for ForwardSearch<'a, V, P> {
         (forward_state (V.graph p.view.now) (asked (P.terms p.request.now.penalties) p.request.now) p.measure p.reached) };
 }
 
-/// What an edge adds: its fee for the request's amount or its delay, or 0 if the edge is the payer's own. The penalty is left
-/// out if the fee alone is as much as what lowers nothing.
+/// What an edge adds: its fee and its penalty for the request's amount or its delay, or 0 if the edge is the payer's own. The
+/// penalty is the least one if that is enough to lower nothing.
 #[inline(always)]
 fn charge<P: Penalties>(
     measure: Measure,
@@ -66,8 +66,9 @@ fn charge<P: Penalties>(
     match measure {
         Measure::Fees => {
             let fee = fee(request.amount, edge.base, edge.millionths);
-            if most <= fee {
-                return fee;
+            let least = fee + request.penalties.least() as u128;
+            if most <= least {
+                return least;
             }
             fee + request.penalties.add(0, edge, request.amount) as u128
         }

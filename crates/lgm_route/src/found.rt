@@ -2,6 +2,8 @@
 
 ghost use Rattle.std.specs.Prelude.{◌≡◌};
 ghost use Rattle.lgm_route.specs.declared.fault.RouteFault.{RouteFault};
+ghost use Rattle.lgm_route.specs.Preferred.{IsCutShort};
+ghost use Rattle.lgm_route.specs.inner.Best.{certain};
 ghost use Rattle.lgm_route.specs.declared.found.SearchFault.TheVariants.{Fault};
 
 use crate::fault::RouteFault;
@@ -44,6 +46,18 @@ impl From<AllocError> for SearchFault {
 
     fn from(_e: AllocError) -> SearchFault {
         SearchFault::Fault(RouteFault::NoMemory)
+    }
+}
+
+/// The route, or why there is none, where the budget can't run out.
+pub(crate) fn certain(found: Result<Found, SearchFault>) -> Result<Route, RouteFault>
+    requires { IsCutShort found → ⊥ }
+    ensures { result ≡ certain found }
+{
+    match found {
+        Ok(found) => Ok(found.route),
+        Err(SearchFault::Fault(fault)) => Err(fault),
+        Err(SearchFault::Undecided) => unreachable!(),
     }
 }
 

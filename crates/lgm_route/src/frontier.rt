@@ -7,8 +7,8 @@ ghost use Rattle.lgm_route.specs.inner.SearchState.{AreRelaxationsAt, Extends};
 
 use crate::halt::Halt;
 use crate::label::Label;
+use crate::label_search::LabelSearch;
 use crate::penalties::Penalties;
-use crate::search::Search;
 use lgm_graph::RoutingGraph;
 use lgm_par::{Gate, Pool};
 use std::alloc::{AllocError, Global};
@@ -28,7 +28,7 @@ fn push(labels: &mut Vec<Label>, label: Option<Label>) -> Result<(), AllocError>
 /// The relaxations of each label of a frontier, computed in chunks.
 fn all_relaxations<Rt: Threads + Sync, G: Gate, V: RoutingGraph + Sync, P: Penalties + Sync>(
     pool: &Pool<'_, Rt, G>,
-    search: &Search<'_, V, P>,
+    search: &LabelSearch<'_, V, P>,
     frontier: &[usize],
 ) -> Result<Vec<Result<Vec<Label>, AllocError>>, AllocError>
     requires { All (λ i. i < length search.now.labels) frontier.now }
@@ -39,7 +39,7 @@ fn all_relaxations<Rt: Threads + Sync, G: Gate, V: RoutingGraph + Sync, P: Penal
     pool.map(frontier, &|i| search.relaxations(alloc, *i))
 }
 
-impl<'a, V: RoutingGraph, P: Penalties> Search<'a, V, P> {
+impl<'a, V: RoutingGraph, P: Penalties> LabelSearch<'a, V, P> {
     /// Whether a label is neither settled, pruned nor dominated.
     pub(crate) fn is_open(&self, i: usize) -> bool
         requires { i < length self.now.labels }
@@ -93,7 +93,7 @@ impl<'a, V: RoutingGraph, P: Penalties> Search<'a, V, P> {
     }
 }
 
-impl<'a, V: RoutingGraph + Sync, P: Penalties + Sync> Search<'a, V, P> {
+impl<'a, V: RoutingGraph + Sync, P: Penalties + Sync> LabelSearch<'a, V, P> {
     /// Relaxes the labels of a frontier in chunks, and then merges the results, in the order of the frontier.
     fn settle_in_chunks<Rt: Threads + Sync, G: Gate>(
         &mut self,

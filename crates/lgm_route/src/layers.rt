@@ -4,9 +4,9 @@ ghost use Rattle.std.specs.Prelude.{◌<◌, ◌≤◌, length, All, IfOk};
 ghost use Rattle.lgm_route.specs.inner.SearchState.{Extends};
 
 use crate::halt::Halt;
+use crate::label_search::LabelSearch;
 use crate::penalties::Penalties;
 use crate::queue::Queue;
-use crate::search::Search;
 use lgm_graph::RoutingGraph;
 use lgm_par::{Gate, Pool};
 use std::alloc::{AllocError, Global};
@@ -49,7 +49,7 @@ impl Layers {
     /// Adds the new labels to their layers.
     fn fill<V: RoutingGraph, P: Penalties>(
         &mut self,
-        search: &Search<'_, V, P>,
+        search: &LabelSearch<'_, V, P>,
     ) -> Result<(), AllocError> {
         for i in self.before.len()..search.len() {
             let hops = search.label(i).hops as usize;
@@ -67,7 +67,7 @@ impl Layers {
     fn layer<V: RoutingGraph, P: Penalties>(
         &self,
         alloc: Global,
-        search: &Search<'_, V, P>,
+        search: &LabelSearch<'_, V, P>,
         hops: u32,
     ) -> Result<Vec<usize>, AllocError>
         ensures { IfOk result (λ frontier. All (λ i. i < length search.now.labels) frontier.items) }
@@ -94,7 +94,7 @@ impl Layers {
     fn frontier<V: RoutingGraph, P: Penalties>(
         &mut self,
         alloc: Global,
-        search: &Search<'_, V, P>,
+        search: &LabelSearch<'_, V, P>,
     ) -> Result<Vec<usize>, AllocError>
         ensures { IfOk result (λ frontier. All (λ i. i < length search.now.labels) frontier.items) }
     {
@@ -109,7 +109,7 @@ impl Layers {
     }
 }
 
-impl<'a, V: RoutingGraph, P: Penalties> Search<'a, V, P> {
+impl<'a, V: RoutingGraph, P: Penalties> LabelSearch<'a, V, P> {
     /// The number of labels of an early frontier that are worth a worker: an eighth of the network's nodes, so that the
     /// search of a large network hardly ever starts threads early.
     fn early_share(&self) -> usize
@@ -119,7 +119,7 @@ impl<'a, V: RoutingGraph, P: Penalties> Search<'a, V, P> {
     }
 }
 
-impl<'a, V: RoutingGraph + Sync, P: Penalties + Sync> Search<'a, V, P> {
+impl<'a, V: RoutingGraph + Sync, P: Penalties + Sync> LabelSearch<'a, V, P> {
     /// Settles the first labels frontier by frontier: those with equal lower bounds together.
     fn settle_early<Rt: Threads + Sync, G: Gate>(
         &mut self,

@@ -15,6 +15,7 @@ mod frontier;
 mod halt;
 mod hops;
 mod label;
+mod label_search;
 mod laws;
 mod layers;
 mod limits;
@@ -34,8 +35,7 @@ mod search;
 mod sought;
 mod walks;
 
-pub use answers::{answer, answer_chunked, answer_over, answer_over_chunked};
-pub use best_route::{least, least_chunked, least_in, least_pooled, least_pooled_in};
+pub use answers::{answer, answer_chunked, least, least_chunked};
 pub use fault::RouteFault;
 pub use found::{Found, SearchFault};
 pub use laws::{
@@ -45,6 +45,7 @@ pub use lgm_graph::{Hop, Route, RoutingGraph};
 pub use limits::{RouteLimits, SearchBudget};
 pub use no_route::NoRouteReason;
 pub use preferences::Preferences;
-pub use preferred::{answer_preferred, preferred_in};
-pub use reasons::{no_route_reason, no_route_reason_in};
+pub use preferred::{find, find_over};
+pub use reasons::no_route_reason;
 pub use request::Request;
+pub use search::Search;

@@ -1,8 +1,9 @@
 //! Limits of a route, and of the search for it.
 
-ghost use Rattle.std.specs.Prelude.{◌≡◌, ◌-◌, ◌^◌};
+ghost use Rattle.std.specs.Prelude.{◌≡◌, true};
 ghost use Rattle.lgm_route.specs.Preferred.{no_limits};
 ghost use Rattle.lgm_route.specs.Reasons.{delay_alone, hops_alone};
+ghost use Rattle.lgm_route.specs.inner.Best.{any_budget};
 
 /// Limits of a payment's route.
 #[derive(Clone, Copy, Debug, PartialEq, Eq)]
@@ -22,6 +23,16 @@ impl RouteLimits {
         RouteLimits {
             most_delay: None,
             most_hops: 20,
+        }
+    }
+
+    /// Whether there is no limit but that of every walk.
+    pub(crate) fn are_none(&self) -> bool
+        ensures { result ≡ true → self.now ≡ no_limits }
+    {
+        match self.most_delay {
+            None => self.most_hops == 20,
+            Some(_most) => false,
         }
     }
 
@@ -58,7 +69,7 @@ pub struct SearchBudget {
 impl SearchBudget {
     /// Any number of labels and steps.
     pub fn any() -> SearchBudget
-        ensures { result ≡ record { most_labels = 2 ^ 64 - 1; most_steps = 2 ^ 64 - 1 } }
+        ensures { result ≡ any_budget }
     {
         SearchBudget {
             most_labels: usize::MAX,

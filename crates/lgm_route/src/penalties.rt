@@ -1,6 +1,7 @@
 //! What a payer would rather pay than use an edge.
 
-ghost use Rattle.std.specs.Prelude.{◌≡◌, ◌+◌, Option, None};
+ghost use Rattle.std.specs.Prelude.{◌≡◌, ◌≤◌, ◌+◌, ◌^◌, ℕ, Option, None};
+ghost use Rattle.lgm_graph.specs.declared.edge.Edge.{Edge as AnEdge};
 ghost use Rattle.lgm_route.specs.inner.Numbered.{Terms, IsSpent, penalty_of};
 
 use lgm_graph::Edge;
@@ -14,6 +15,11 @@ pub(crate) trait Penalties: Copy {
     fn add(&self, spent: u64, edge: &Edge, amount: u64) -> u64
         requires { IsSpent (terms self.now) spent }
         ensures { result ≡ spent + penalty_of (terms self.now) edge.now amount };
+
+    /// A penalty in msat that none is below.
+    fn least(&self) -> u64
+        ensures low { result ≤ 2 ^ 40 }
+        ensures least { (edge : AnEdge) (amount : ℕ) → result ≤ penalty_of (terms self.now) edge amount };
 }
 
 /// No penalties: the walk that sends least is the best.
@@ -25,6 +31,11 @@ impl Penalties for NoPenalties {
 
     #[inline(always)]
     fn add(&self, _spent: u64, _edge: &Edge, _amount: u64) -> u64 {
+        0
+    }
+
+    #[inline(always)]
+    fn least(&self) -> u64 {
         0
     }
 }

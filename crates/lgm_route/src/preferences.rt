@@ -122,4 +122,9 @@ impl<'a, V: RoutingGraph> Penalties for Weights<'a, V> {
         let estimate = self.estimate(edge);
         spent + self.preferences.penalty(estimate, edge.max, amount)
     }
+
+    #[inline(always)]
+    fn least(&self) -> u64 {
+        u64::from(self.preferences.hop_msat)
+    }
 }

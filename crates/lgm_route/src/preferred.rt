@@ -1,26 +1,24 @@
 //! The best route by what its payer prefers, within limits.
 
-ghost use Rattle.std.specs.Prelude.{◌≡◌, ◌+◌, ◌-◌, ◌*◌, ◌^◌, ◌<◌, ℕ, [], Some, Err, length};
+ghost use Rattle.std.specs.Prelude.{◌≡◌, ◌⊎◌, ◌+◌, ◌*◌, ◌^◌, ◌<◌, ℕ, true, false, Some, Err, length};
 ghost use Rattle.lgm_graph.specs.Edges.{PointEdge};
 ghost use Rattle.lgm_graph.specs.Graph.{IsGraphOf, point_edges};
 ghost use Rattle.lgm_graph.specs.Overlay.{overlaid_edges};
 ghost use Rattle.lgm_route.specs.Answers.{refusal};
 ghost use Rattle.lgm_route.specs.Preferred.{IsRouteBy, IsPreferredAnswer, IsCutShort, IsUsedUp, IsBeyond};
-ghost use Rattle.lgm_route.specs.Preferred.{penalty_at, no_preferences, preferred_answer};
-ghost use Rattle.lgm_route.specs.inner.Best.{AreAlike, IsFree, hops_within};
+ghost use Rattle.lgm_route.specs.Preferred.{PrefersNothing, no_limits, penalty_for, answer_for};
+ghost use Rattle.lgm_route.specs.inner.Best.{AreAlike, IsFree, hops_within, is_settled, any_budget};
 ghost use Rattle.lgm_route.specs.declared.fault.RouteFault.{RouteFault as Refusal};
 ghost use Rattle.lgm_route.specs.declared.found.SearchFault.TheVariants.{Fault};
 
-use crate::best_route::{best_over, route_of};
-use crate::fault::RouteFault;
+use crate::best_route::found_within;
 use crate::found::{Found, SearchFault};
 use crate::limits::{RouteLimits, SearchBudget};
-use crate::numbering::numbered;
 use crate::penalties::{NoPenalties, Penalties};
-use crate::preferences::{Preferences, Weights};
+use crate::preferences::Weights;
 use crate::request::{LawfulRequest, Request};
-use crate::walks::walk_within;
-use lgm_graph::{Estimates, Overlay, OverlayView, Route, RoutingGraph, View, overlays_are_lawful};
+use crate::search::Search;
+use lgm_graph::{Overlay, OverlayView, Route, RoutingGraph, View, overlays_are_lawful};
 use lgm_store::Map;
 use std::alloc::Global;
 
@@ -38,196 +36,142 @@ fn is_within(route: &Route, request: &LawfulRequest, limits: &RouteLimits) -> bo
     }
 }
 
-/// The best route within limits, by one search within a budget.
-fn found_within<V: RoutingGraph, P: Penalties>(
+/// Whether what was found without limits is the answer within these.
+fn is_settled(
+    found: &Result<Found, SearchFault>,
+    request: &LawfulRequest,
+    limits: &RouteLimits,
+) -> bool
+    ensures settled { result ≡ true
+        → (limits.now ≡ no_limits) ⊎ (is_settled limits.now request.now.expiry found.now ≡ true) }
+    ensures open { result ≡ false → is_settled limits.now request.now.expiry found.now ≡ false }
+{
+    if limits.are_none() {
+        return true;
+    }
+    match found {
+        Ok(found) => found.is_best && is_within(&found.route, request, limits),
+        Err(SearchFault::Undecided) => false,
+        Err(SearchFault::Fault(_fault)) => true,
+    }
+}
+
+/// The best route within limits. Mostly the best one of all is within them, and that is found sooner: `whole` is what may be
+/// spent on it.
+fn found_by<V: RoutingGraph, P: Penalties>(
     alloc: Global,
     graph: &V,
     request: &LawfulRequest,
     limits: &RouteLimits,
     penalties: P,
+    whole: &SearchBudget,
     budget: &SearchBudget,
 ) -> Result<Found, SearchFault>
+    requires { (whole.now ≡ any_budget) ⊎ (whole.now ≡ budget.now) }
     ensures answer { (penalty : PointEdge → ℕ → ℕ) → AreAlike (V.graph graph.now) (P.terms penalties) penalty
         → IsRouteBy (IsPreferredAnswer penalty limits.now (point_edges (V.graph graph.now)) request.now) limits.now
         (point_edges (V.graph graph.now)) request.now result }
     ensures used_up { IsCutShort result → IsUsedUp limits.now (point_edges (V.graph graph.now)) request.now budget.now }
+    ensures beyond { (penalty : PointEdge → ℕ → ℕ) → AreAlike (V.graph graph.now) (P.terms penalties) penalty → IsFree penalty
+        → whole.now ≡ any_budget → IsCutShort result → IsBeyond limits.now (point_edges (V.graph graph.now)) request.now }
 {
-    // The contract of `nodes` says that the nodes of edges are numbered.
-    let _nodes = graph.nodes();
-    let Some(numbered) = numbered(graph, request, limits, penalties) else {
-        return Err(SearchFault::Fault(RouteFault::NoRoute));
-    };
-    let found = walk_within(alloc, graph, &numbered, budget)?;
-    let route = route_of(alloc, graph, request, &numbered, &found.walk)?;
-    Ok(Found {
-        route,
-        is_best: found.is_best,
-    })
-}
-
-/// The best route of a payer that prefers nothing. Mostly the one that sends least of all is within the limits.
-fn plain_within<V: RoutingGraph>(
-    alloc: Global,
-    graph: &V,
-    request: &LawfulRequest,
-    limits: &RouteLimits,
-    budget: &SearchBudget,
-) -> Result<Found, SearchFault>
-    ensures answer { (penalty : PointEdge → ℕ → ℕ) → IsFree penalty
-        → IsRouteBy (IsPreferredAnswer penalty limits.now (point_edges (V.graph graph.now)) request.now) limits.now
-        (point_edges (V.graph graph.now)) request.now result }
-    ensures used_up { IsCutShort result → IsUsedUp limits.now (point_edges (V.graph graph.now)) request.now budget.now }
-    ensures beyond { IsCutShort result → IsBeyond limits.now (point_edges (V.graph graph.now)) request.now }
-{
-    let route = best_over(alloc, graph, request)?;
-    if is_within(&route, request, limits) {
-        return Ok(Found {
-            route,
-            is_best: true,
-        });
+    let first = found_within(
+        alloc,
+        graph,
+        request,
+        &RouteLimits::none(),
+        penalties,
+        whole,
+    );
+    if is_settled(&first, request, limits) {
+        return first;
     }
-    found_within(alloc, graph, request, limits, NoPenalties, budget)
+    found_within(alloc, graph, request, limits, penalties, budget)
 }
 
-/// The best route of a payer with preferences. Mostly the best one of all is within the limits, and that is found sooner.
-fn weighed_within<V: RoutingGraph>(
+/// The best route as [`find`] finds it.
+pub(crate) fn found<V: RoutingGraph>(
     alloc: Global,
     graph: &V,
+    search: &Search<'_>,
     request: &LawfulRequest,
-    limits: &RouteLimits,
-    weights: Weights<'_, V>,
-    budget: &SearchBudget,
 ) -> Result<Found, SearchFault>
-    requires { weights.graph.now ≡ graph.now }
-    ensures answer { IsRouteBy (IsPreferredAnswer (penalty_at weights.entry.preferences weights.entry.estimates.now) limits.now
-        (point_edges (V.graph graph.now)) request.now) limits.now (point_edges (V.graph graph.now)) request.now result }
-    ensures used_up { IsCutShort result → IsUsedUp limits.now (point_edges (V.graph graph.now)) request.now budget.now }
+    ensures answer { IsRouteBy (IsPreferredAnswer (penalty_for search.now) search.now.limits (point_edges (V.graph graph.now)) request.now)
+        search.now.limits (point_edges (V.graph graph.now)) request.now result }
+    ensures used_up { IsCutShort result
+        → IsUsedUp search.now.limits (point_edges (V.graph graph.now)) request.now search.now.budget }
+    ensures beyond { PrefersNothing search.now → IsCutShort result
+        → IsBeyond search.now.limits (point_edges (V.graph graph.now)) request.now }
 {
-    if limits.most_hops < 20 || limits.most_delay.is_some() {
-        match found_within(alloc, graph, request, &RouteLimits::none(), weights, budget) {
-            Ok(found) => {
-                if found.is_best && is_within(&found.route, request, limits) {
-                    return Ok(found);
-                }
-            }
-            Err(SearchFault::Undecided) => {}
-            Err(SearchFault::Fault(fault)) => return Err(SearchFault::Fault(fault)),
-        }
-    }
-    found_within(alloc, graph, request, limits, weights, budget)
-}
-
-/// The best route by preferences and estimates, as [`preferred_in`] finds it.
-pub(crate) fn preferred_over<V: RoutingGraph>(
-    alloc: Global,
-    graph: &V,
-    preferences: &Preferences,
-    estimates: &Estimates,
-    request: &LawfulRequest,
-    limits: &RouteLimits,
-    budget: &SearchBudget,
-) -> Result<Found, SearchFault>
-    ensures answer { IsRouteBy (IsPreferredAnswer (penalty_at preferences.now estimates.now) limits.now
-        (point_edges (V.graph graph.now)) request.now) limits.now (point_edges (V.graph graph.now)) request.now result }
-    ensures used_up { IsCutShort result → IsUsedUp limits.now (point_edges (V.graph graph.now)) request.now budget.now }
-    ensures beyond { preferences.now ≡ no_preferences → estimates.now ≡ [] → IsCutShort result
-        → IsBeyond limits.now (point_edges (V.graph graph.now)) request.now }
-{
-    if preferences.are_none() && estimates.len() == 0 {
-        return plain_within(alloc, graph, request, limits, budget);
+    let limits = &search.limits;
+    let budget = &search.budget;
+    if search.is_plain() {
+        let whole = SearchBudget::any();
+        return found_by(alloc, graph, request, limits, NoPenalties, &whole, budget);
     }
     let weights = Weights {
         graph,
-        preferences: *preferences,
-        estimates,
+        preferences: search.preferences,
+        estimates: search.estimates,
     };
-    weighed_within(alloc, graph, request, limits, weights, budget)
+    found_by(alloc, graph, request, limits, weights, budget, budget)
 }
 
 /// The best route of a payment over the edges of a graph by what its payer prefers and knows of edges: of all usable walks
 /// within the limits the one that costs least, which is what it sends and the penalties of its edges, each for what it
 /// carries. Ties are broken by fewer channels, then by the lexicographically smaller list of ids from the payer on.
 ///
-/// Where the budget runs out it is the best of the routes that were found so far, or `Undecided` if none was. Without
-/// preferences this only happens if the route that sends least of all isn't within the limits.
+/// Where the budget runs out it is the best of the routes that were found so far, or `Undecided` if none was. Up to two
+/// searches are made, each within the budget: the first one without limits. If edges have no penalties, by preferences or
+/// estimates, that one has no budget, so the budget only runs out if the route that sends least of all isn't within the
+/// limits.
 ///
 /// The refusals are those of [`least`](crate::least). `NoRoute` comes only if no usable walk is within the limits.
 /// `NoMemory` and `Undecided` say nothing about the payment.
-pub fn preferred_in<V: RoutingGraph>(
+pub fn find<V: RoutingGraph>(
     alloc: Global,
     graph: &V,
-    preferences: &Preferences,
-    estimates: &Estimates,
+    search: &Search<'_>,
     request: &Request,
-    limits: &RouteLimits,
-    budget: &SearchBudget,
 ) -> Result<Found, SearchFault>
     ensures refused { (fault : Refusal) → refusal request.now ≡ Some fault → result ≡ Err (Fault fault) }
-    ensures answer { IsRouteBy (IsPreferredAnswer (penalty_at preferences.now estimates.now) limits.now
-        (point_edges (V.graph graph.now)) request.now) limits.now (point_edges (V.graph graph.now)) request.now result }
-    ensures used_up { IsCutShort result → IsUsedUp limits.now (point_edges (V.graph graph.now)) request.now budget.now }
-    ensures beyond { preferences.now ≡ no_preferences → estimates.now ≡ [] → IsCutShort result
-        → IsBeyond limits.now (point_edges (V.graph graph.now)) request.now }
+    ensures answer { IsRouteBy (IsPreferredAnswer (penalty_for search.now) search.now.limits (point_edges (V.graph graph.now)) request.now)
+        search.now.limits (point_edges (V.graph graph.now)) request.now result }
+    ensures used_up { IsCutShort result
+        → IsUsedUp search.now.limits (point_edges (V.graph graph.now)) request.now search.now.budget }
+    ensures beyond { PrefersNothing search.now → IsCutShort result
+        → IsBeyond search.now.limits (point_edges (V.graph graph.now)) request.now }
 {
-    let request = request.lawful()?;
-    preferred_over(
-        alloc,
-        graph,
-        preferences,
-        estimates,
-        &request,
-        limits,
-        budget,
-    )
+    found(alloc, graph, search, &request.lawful()?)
 }
 
 /// The same over a map with its view and an overlay: the only answer, by exhaustive search. An overlay of nothing leaves
 /// the map's edges. The overlay's extra edges have a place in the view if their nodes do in its numbers of 32 bits.
-pub fn answer_preferred(
+pub fn find_over(
     alloc: Global,
     map: &Map,
     view: &View,
     overlay: &Overlay,
-    preferences: &Preferences,
-    estimates: &Estimates,
+    search: &Search<'_>,
     request: &Request,
-    limits: &RouteLimits,
-    budget: &SearchBudget,
 ) -> Result<Found, SearchFault>
     requires beside { IsGraphOf map.now view.now }
     requires few { length view.now.points + 2 * length overlay.now.extra < 2 ^ 32 }
     ensures refused { (fault : Refusal) → refusal request.now ≡ Some fault → result ≡ Err (Fault fault) }
     ensures answer { let edges = overlaid_edges view.now.known map.now overlay.now in
-        let penalty = penalty_at preferences.now estimates.now in
-        IsRouteBy (λ answer. answer ≡ preferred_answer penalty limits.now edges request.now) limits.now edges request.now result }
+        IsRouteBy (λ answer. answer ≡ answer_for search.now edges request.now) search.now.limits edges request.now result }
     ensures used_up { IsCutShort result
-        → IsUsedUp limits.now (overlaid_edges view.now.known map.now overlay.now) request.now budget.now }
-    ensures beyond { preferences.now ≡ no_preferences → estimates.now ≡ [] → IsCutShort result
-        → IsBeyond limits.now (overlaid_edges view.now.known map.now overlay.now) request.now }
+        → IsUsedUp search.now.limits (overlaid_edges view.now.known map.now overlay.now) request.now search.now.budget }
+    ensures beyond { PrefersNothing search.now → IsCutShort result
+        → IsBeyond search.now.limits (overlaid_edges view.now.known map.now overlay.now) request.now }
 {
     map.rows_are_lawful();
     overlays_are_lawful();
     let request = request.lawful()?;
     if overlay.is_empty() {
         view.shows_the_edges();
-        return preferred_over(
-            alloc,
-            view,
-            preferences,
-            estimates,
-            &request,
-            limits,
-            budget,
-        );
+        return found(alloc, view, search, &request);
     }
     let over = OverlayView::of(alloc, view, overlay)?;
-    preferred_over(
-        alloc,
-        &over,
-        preferences,
-        estimates,
-        &request,
-        limits,
-        budget,
-    )
+    found(alloc, &over, search, &request)
 }

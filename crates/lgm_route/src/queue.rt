@@ -7,8 +7,8 @@ use crate::bounds::Measure;
 use crate::entry::Entry;
 use crate::halt::Halt;
 use crate::label::cost;
+use crate::label_search::LabelSearch;
 use crate::penalties::Penalties;
-use crate::search::Search;
 use lgm_graph::RoutingGraph;
 use std::alloc::{AllocError, Global};
 use std::collections::BinaryHeap;
@@ -26,7 +26,7 @@ impl Queue {
     /// A queue of all labels, and of those that dives from them add.
     pub(crate) fn of<V: RoutingGraph, P: Penalties>(
         alloc: Global,
-        search: &mut Search<'_, V, P>,
+        search: &mut LabelSearch<'_, V, P>,
     ) -> Result<Queue, Halt>
         ensures extends { IfOk result (λ _. Extends search.old search.new) }
         ensures halted { IfErr result (λ halt. IsHalted search.old search.new halt) }
@@ -43,7 +43,7 @@ impl Queue {
     /// Queues the new labels, and those that dives from them add.
     pub(crate) fn fill<V: RoutingGraph, P: Penalties>(
         &mut self,
-        search: &mut Search<'_, V, P>,
+        search: &mut LabelSearch<'_, V, P>,
     ) -> Result<(), Halt>
         ensures extends { IfOk result (λ _. Extends search.old search.new) }
         ensures halted { IfErr result (λ halt. IsHalted search.old search.new halt) }
@@ -61,7 +61,10 @@ impl Queue {
     }
 
     /// The index of the label with the smallest lower bound, unless all are pruned.
-    fn next<V: RoutingGraph, P: Penalties>(&mut self, search: &Search<'_, V, P>) -> Option<usize>
+    fn next<V: RoutingGraph, P: Penalties>(
+        &mut self,
+        search: &LabelSearch<'_, V, P>,
+    ) -> Option<usize>
         ensures { IfSome result (λ i. i < length search.now.labels) }
     {
         let entry = self.heap.pop()?;
@@ -82,7 +85,7 @@ impl Queue {
     /// The open label with the least lower bound, unless the remaining ones can be pruned.
     fn next_open<V: RoutingGraph, P: Penalties>(
         &mut self,
-        search: &Search<'_, V, P>,
+        search: &LabelSearch<'_, V, P>,
     ) -> Option<usize>
         ensures { IfSome result (λ i. i < length search.now.labels) }
     {
@@ -98,7 +101,7 @@ impl Queue {
     /// Whether the next label has the lower bound and the number of edges of this one.
     fn is_next_level_with<V: RoutingGraph, P: Penalties>(
         &self,
-        search: &Search<'_, V, P>,
+        search: &LabelSearch<'_, V, P>,
         i: usize,
     ) -> bool
         requires { i < length search.now.labels }
@@ -115,7 +118,7 @@ impl Queue {
     pub(crate) fn frontier<V: RoutingGraph, P: Penalties>(
         &mut self,
         alloc: Global,
-        search: &Search<'_, V, P>,
+        search: &LabelSearch<'_, V, P>,
     ) -> Result<Vec<usize>, AllocError>
         ensures { IfOk result (λ frontier. All (λ i. i < length search.now.labels) frontier.items) }
     {
@@ -139,7 +142,7 @@ impl Queue {
     }
 }
 
-impl<'a, V: RoutingGraph, P: Penalties> Search<'a, V, P> {
+impl<'a, V: RoutingGraph, P: Penalties> LabelSearch<'a, V, P> {
     /// A lower bound on what walks over a label cost above the request's amount, in msat.
     #[inline(always)]
     pub(crate) fn excess_lower_bound(&self, i: usize) -> u64
@@ -152,18 +155,9 @@ impl<'a, V: RoutingGraph, P: Penalties> Search<'a, V, P> {
             .saturating_add(self.lower_bound(label.node))
     }
 
-    /// Settles labels best-first until the remaining ones can be pruned.
+    /// Settles labels best-first until the remaining ones can be pruned. Where many labels led to no walk, a quick one is
+    /// looked for.
     pub(crate) fn settle_best_first(&mut self, alloc: Global) -> Result<(), Halt>
-        ensures extends { IfOk result (λ _. Extends self.old self.new) }
-        ensures halted { IfErr result (λ halt. IsHalted self.old self.new halt) }
-    {
-        let mut queue = Queue::of(alloc, self)?;
-        self.settle_queue(&mut queue, usize::MAX)?;
-        Ok(())
-    }
-
-    /// The same within limits: where many labels led to no walk, a quick one is looked for.
-    pub(crate) fn settle_within(&mut self, alloc: Global) -> Result<(), Halt>
         ensures extends { IfOk result (λ _. Extends self.old self.new) }
         ensures halted { IfErr result (λ halt. IsHalted self.old self.new halt) }
     {
@@ -171,7 +165,7 @@ impl<'a, V: RoutingGraph, P: Penalties> Search<'a, V, P> {
         if self.settle_first(&mut queue)? {
             return Ok(());
         }
-        self.hasten(alloc, &mut queue)?;
+        self.seek_quick_walk(alloc, &mut queue)?;
         self.settle_queue(&mut queue, usize::MAX)?;
         Ok(())
     }
@@ -193,7 +187,7 @@ impl<'a, V: RoutingGraph, P: Penalties> Search<'a, V, P> {
     }
 
     /// Looks for a quick walk, unless some walk was found, and queues the labels that this adds.
-    fn hasten(&mut self, alloc: Global, queue: &mut Queue) -> Result<(), Halt>
+    fn seek_quick_walk(&mut self, alloc: Global, queue: &mut Queue) -> Result<(), Halt>
         ensures extends { IfOk result (λ _. Extends self.old self.new) }
         ensures halted { IfErr result (λ halt. IsHalted self.old self.new halt) }
     {
@@ -264,7 +258,7 @@ impl Dives {
     #[inline(always)]
     pub(crate) fn dive<V: RoutingGraph, P: Penalties>(
         &mut self,
-        search: &mut Search<'_, V, P>,
+        search: &mut LabelSearch<'_, V, P>,
         i: usize,
         excess_lower_bound: u64,
     ) -> Result<(), Halt>

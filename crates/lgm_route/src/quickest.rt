@@ -5,8 +5,8 @@ ghost use Rattle.lgm_route.specs.inner.SearchState.{Extends, IsHalted};
 
 use crate::entry::Entry;
 use crate::halt::Halt;
+use crate::label_search::LabelSearch;
 use crate::penalties::Penalties;
-use crate::search::Search;
 use lgm_graph::RoutingGraph;
 use std::alloc::{AllocError, Global};
 use std::collections::BinaryHeap;
@@ -35,7 +35,7 @@ impl Quickest {
     /// Queues the new labels.
     fn fill<V: RoutingGraph, P: Penalties>(
         &mut self,
-        search: &Search<'_, V, P>,
+        search: &LabelSearch<'_, V, P>,
     ) -> Result<(), AllocError> {
         for i in self.queued..usize::MAX {
             self.queued = i;
@@ -60,7 +60,7 @@ impl Quickest {
     }
 }
 
-impl<'a, V: RoutingGraph, P: Penalties> Search<'a, V, P> {
+impl<'a, V: RoutingGraph, P: Penalties> LabelSearch<'a, V, P> {
     /// Settles the quickest label of each node, until some walk is found.
     pub(crate) fn settle_quickest(&mut self, alloc: Global) -> Result<(), Halt>
         ensures extends { IfOk result (λ _. Extends self.old self.new) }

@@ -13,8 +13,9 @@ use crate::found::SearchFault;
 use crate::limits::{RouteLimits, SearchBudget};
 use crate::no_route::NoRouteReason;
 use crate::preferences::Preferences;
-use crate::preferred::preferred_over;
+use crate::preferred::found;
 use crate::request::{LawfulRequest, Request};
+use crate::search::Search;
 use crate::sought::{Sought, any_sought};
 use lgm_graph::{Estimates, Overlay, OverlayView, RoutingGraph, View, overlays_are_lawful};
 use lgm_store::Map;
@@ -35,15 +36,13 @@ fn has_route<V: RoutingGraph>(
     // The contract of `get` says that the payment isn't refused.
     let _request = request.get();
     let nothing = Estimates::new(alloc);
-    match preferred_over(
-        alloc,
-        graph,
-        &Preferences::none(),
-        &nothing,
-        request,
-        limits,
-        budget,
-    ) {
+    let search = Search {
+        preferences: Preferences::none(),
+        estimates: &nothing,
+        limits: *limits,
+        budget: *budget,
+    };
+    match found(alloc, graph, &search, request) {
         Ok(_found) => Ok(true),
         Err(SearchFault::Undecided) => Err(SearchFault::Undecided),
         Err(SearchFault::Fault(fault)) => unless_no_route(fault),
@@ -85,14 +84,14 @@ fn reason_at_ends<V: RoutingGraph>(graph: &V, request: &Request) -> Option<NoRou
 fn reason_between<V: RoutingGraph>(
     alloc: Global,
     graph: &V,
+    search: &Search<'_>,
     request: &LawfulRequest,
-    limits: &RouteLimits,
-    budget: &SearchBudget,
 ) -> Result<Option<NoRouteReason>, SearchFault>
-    requires { NoneBefore 45 limits.now (point_edges (V.graph graph.now)) request.now }
-    ensures reason { IfOk result (λ found. IsExplained found limits.now (point_edges (V.graph graph.now)) request.now) }
-    ensures unknown { IfErr result (λ fault. IsUnexplained (point_edges (V.graph graph.now)) request.now budget.now fault) }
+    requires { NoneBefore 45 search.now.limits (point_edges (V.graph graph.now)) request.now }
+    ensures reason { IfOk result (λ found. IsExplained found search.now.limits (point_edges (V.graph graph.now)) request.now) }
+    ensures unknown { IfErr result (λ fault. IsUnexplained (point_edges (V.graph graph.now)) request.now search.now.budget fault) }
 {
+    let (limits, budget) = (&search.limits, &search.budget);
     if !has_route(alloc, graph, request, &RouteLimits::none(), budget)? {
         return Ok(Some(NoRouteReason::Unconnected));
     }
@@ -112,60 +111,45 @@ fn reason_between<V: RoutingGraph>(
 fn reason_over<V: RoutingGraph>(
     alloc: Global,
     graph: &V,
+    search: &Search<'_>,
     request: &LawfulRequest,
-    limits: &RouteLimits,
-    budget: &SearchBudget,
 ) -> Result<Option<NoRouteReason>, SearchFault>
-    ensures reason { IfOk result (λ found. IsExplained found limits.now (point_edges (V.graph graph.now)) request.now) }
-    ensures unknown { IfErr result (λ fault. IsUnexplained (point_edges (V.graph graph.now)) request.now budget.now fault) }
+    ensures reason { IfOk result (λ found. IsExplained found search.now.limits (point_edges (V.graph graph.now)) request.now) }
+    ensures unknown { IfErr result (λ fault. IsUnexplained (point_edges (V.graph graph.now)) request.now search.now.budget fault) }
 {
     match reason_at_ends(graph, request.get()) {
         Some(reason) => Ok(Some(reason)),
-        None => reason_between(alloc, graph, request, limits, budget),
+        None => reason_between(alloc, graph, search, request),
     }
 }
 
-/// Why a payment has no route within limits over the edges of a graph: the first reason that holds. None if it has a route.
+/// Why a payment has no route within limits over a map with its view and an overlay: the first reason that holds. None if it
+/// has a route. What its payer prefers and has learnt of edges doesn't matter.
 ///
 /// Looks at all edges, and searches up to four times, each time within the budget. Where it runs out before a route is found,
 /// this is `Undecided`. A payment that is refused whatever the edges are is refused for its first reason.
-pub fn no_route_reason_in<V: RoutingGraph>(
-    alloc: Global,
-    graph: &V,
-    request: &Request,
-    limits: &RouteLimits,
-    budget: &SearchBudget,
-) -> Result<Option<NoRouteReason>, SearchFault>
-    ensures reason { IfOk result (λ found. IsExplained found limits.now (point_edges (V.graph graph.now)) request.now) }
-    ensures unknown { IfErr result (λ fault. IsUnexplained (point_edges (V.graph graph.now)) request.now budget.now fault) }
-{
-    reason_over(alloc, graph, &request.lawful()?, limits, budget)
-}
-
-/// The same over a map with its view and an overlay.
 pub fn no_route_reason(
     alloc: Global,
     map: &Map,
     view: &View,
     overlay: &Overlay,
+    search: &Search<'_>,
     request: &Request,
-    limits: &RouteLimits,
-    budget: &SearchBudget,
 ) -> Result<Option<NoRouteReason>, SearchFault>
     requires beside { IsGraphOf map.now view.now }
     requires few { length view.now.points + 2 * length overlay.now.extra < 2 ^ 32 }
     ensures reason { IfOk result (λ found.
-        IsExplained found limits.now (overlaid_edges view.now.known map.now overlay.now) request.now) }
+        IsExplained found search.now.limits (overlaid_edges view.now.known map.now overlay.now) request.now) }
     ensures unknown { IfErr result (λ fault.
-        IsUnexplained (overlaid_edges view.now.known map.now overlay.now) request.now budget.now fault) }
+        IsUnexplained (overlaid_edges view.now.known map.now overlay.now) request.now search.now.budget fault) }
 {
     map.rows_are_lawful();
     overlays_are_lawful();
     let request = request.lawful()?;
     if overlay.is_empty() {
         view.shows_the_edges();
-        return reason_over(alloc, view, &request, limits, budget);
+        return reason_over(alloc, view, search, &request);
     }
     let over = OverlayView::of(alloc, view, overlay)?;
-    reason_over(alloc, &over, &request, limits, budget)
+    reason_over(alloc, &over, search, &request)
 }

@@ -8,14 +8,14 @@ ghost use Rattle.lgm_route.specs.inner.SearchState.{Extends, IsHalted, IsIntoAt,
 use crate::bounds::Measure;
 use crate::halt::Halt;
 use crate::label::{Label, cost};
+use crate::label_search::LabelSearch;
 use crate::penalties::Penalties;
-use crate::search::Search;
 use lgm_graph::{Edge, RoutingGraph, fee};
 
 /// The maximum number of edges of a dive.
 const MOST_EDGES: u16 = 19;
 
-impl<'a, V: RoutingGraph, P: Penalties> Search<'a, V, P> {
+impl<'a, V: RoutingGraph, P: Penalties> LabelSearch<'a, V, P> {
     /// The relaxation of a label over one edge into its node, where no walk of this cost is better: a whole walk if the
     /// edge is the payer's, else a longer rest. None if the edge can't carry it, or if a longer rest would be too long, or its
     /// walks beyond the limit, or is pruned.
@@ -56,8 +56,9 @@ impl<'a, V: RoutingGraph, P: Penalties> Search<'a, V, P> {
         let amount = label.amount as u128 + fee(label.amount, edge.base, edge.millionths);
         let hops = label.hops as u128 + 1;
         let beyond = self.lower_bound(edge.from) as u128;
-        // Most edges are pruned by what they charge, and their penalties aren't computed.
-        if bound <= cost(amount + label.penalty as u128 + beyond, hops) || amount >= 1 << 64 {
+        // Most edges are pruned by what they charge and the least penalty, and theirs aren't computed.
+        let least = label.penalty as u128 + request.penalties.least() as u128;
+        if bound <= cost(amount + least + beyond, hops) || amount >= 1 << 64 {
             return None;
         }
         let delay = self.delay_over(label, edge)?;

@@ -1,21 +1,20 @@
 //! The best walk between numbered nodes.
 
 ghost use Rattle.std.specs.Prelude.{◌≡◌, ◌≤◌, ◌^◌, IfOk, IfErr};
-ghost use Rattle.std.specs.Option.{option_map};
 ghost use Rattle.lgm_graph.specs.Graph.{edges, AreListed};
-ghost use Rattle.lgm_route.specs.inner.Best.{IsBestWalk, IsWalkFound, IsCutShort, IsUsedUp};
+ghost use Rattle.lgm_route.specs.inner.Best.{IsWalkFound, IsCutShort, IsUsedUp};
 ghost use Rattle.lgm_route.specs.inner.Numbered.{asked};
-ghost use Rattle.lgm_route.specs.inner.SearchState.{IsBegun, IsFinished, IsHalted};
+ghost use Rattle.lgm_route.specs.inner.SearchState.{IsBegun, IsFinished, IsHalted, IsSearch};
 ghost use Rattle.lgm_route.specs.inner.Searching.{IsUpperBound};
 
 use crate::bounds::lower_bounds;
 use crate::fault::RouteFault;
 use crate::found::{SearchFault, WalkFound};
 use crate::halt::Halt;
+use crate::label_search::LabelSearch;
 use crate::limits::SearchBudget;
 use crate::penalties::Penalties;
 use crate::request::NumberedRequest;
-use crate::search::Search;
 use lgm_graph::{Edge, RoutingGraph};
 use lgm_par::{Gate, Pool};
 use std::alloc::{AllocError, Global};
@@ -27,7 +26,7 @@ fn begin<'a, V: RoutingGraph, P: Penalties>(
     view: &'a V,
     request: &NumberedRequest<P>,
     budget: SearchBudget,
-) -> Result<Search<'a, V, P>, AllocError>
+) -> Result<LabelSearch<'a, V, P>, AllocError>
     requires { (1 ≤ request.now.most_hops) × (request.now.most_hops ≤ 20) }
     ensures { IfOk result (λ search.
         IsBegun (V.graph view.entry.now) (asked (P.terms request.now.penalties) request.now) budget search) }
@@ -35,25 +34,8 @@ fn begin<'a, V: RoutingGraph, P: Penalties>(
     let _nodes = view.nodes();
     let upper_bound = most_sent(view, request);
     let low = lower_bounds(alloc, view, request)?;
-    let search = Search::new(alloc, view, *request, low, upper_bound, budget)?;
+    let search = LabelSearch::new(alloc, view, *request, low, upper_bound, budget)?;
     Ok(search)
-}
-
-/// The best walk between numbered nodes, if one is usable.
-pub(crate) fn best_walk<V: RoutingGraph, P: Penalties>(
-    alloc: Global,
-    view: &V,
-    request: &NumberedRequest<P>,
-) -> Result<Option<Vec<Edge>>, AllocError>
-    requires { (1 ≤ request.now.most_hops) × (request.now.most_hops ≤ 20) }
-    ensures { IfOk result (λ best. IsBestWalk (edges (V.graph view.now))
-        (asked (P.terms request.now.penalties) request.now) (option_map (λ walk. walk.items) best)) }
-{
-    let mut search = begin(alloc, view, request, SearchBudget::any())?;
-    match finish(alloc, &mut search) {
-        Ok(()) => search.best_walk(alloc),
-        Err(_) => Err(AllocError),
-    }
 }
 
 /// The best walk between numbered nodes within a budget, or, where that runs out, the best one so far.
@@ -69,35 +51,56 @@ pub(crate) fn walk_within<V: RoutingGraph, P: Penalties>(
         → IsUsedUp (edges (V.graph view.now)) (asked (P.terms request.now.penalties) request.now) budget.now }
 {
     let mut search = begin(alloc, view, request, *budget)?;
-    match finish_within(alloc, &mut search) {
-        Ok(()) => match search.best_walk(alloc)? {
-            Some(walk) => Ok(WalkFound {
-                walk,
-                is_best: true,
-            }),
-            None => Err(SearchFault::Fault(RouteFault::NoRoute)),
-        },
+    match finish(alloc, &mut search) {
+        Ok(()) => best_found(alloc, &search),
         Err(halt) => match halt {
             Halt::NoMemory => Err(SearchFault::Fault(RouteFault::NoMemory)),
-            _ => {
-                // The contract of `len` says that no two labels represent one rest.
-                let _len = search.len();
-                match search.best_walk(alloc)? {
-                    Some(walk) => Ok(WalkFound {
-                        walk,
-                        is_best: false,
-                    }),
-                    None => Err(SearchFault::Undecided),
-                }
-            }
+            _ => best_so_far(alloc, &search),
         },
+    }
+}
+
+/// The best walk of a finished search.
+fn best_found<V: RoutingGraph, P: Penalties>(
+    alloc: Global,
+    search: &LabelSearch<'_, V, P>,
+) -> Result<WalkFound, SearchFault>
+    requires { IsFinished search.now }
+    ensures found { IsWalkFound (edges search.now.ground.graph) search.now.ground.request result }
+    ensures sure { IsCutShort result → ⊥ }
+{
+    match search.best_walk(alloc)? {
+        Some(walk) => Ok(WalkFound {
+            walk,
+            is_best: true,
+        }),
+        None => Err(SearchFault::Fault(RouteFault::NoRoute)),
+    }
+}
+
+/// The best walk so far of a search that stopped.
+fn best_so_far<V: RoutingGraph, P: Penalties>(
+    alloc: Global,
+    search: &LabelSearch<'_, V, P>,
+) -> Result<WalkFound, SearchFault>
+    ensures found { IsWalkFound (edges search.now.ground.graph) search.now.ground.request result }
+    ensures search { IsSearch search.now }
+{
+    // The contract of `len` says that no two labels represent one rest.
+    let _len = search.len();
+    match search.best_walk(alloc)? {
+        Some(walk) => Ok(WalkFound {
+            walk,
+            is_best: false,
+        }),
+        None => Err(SearchFault::Undecided),
     }
 }
 
 /// Settles all labels of a search, best-first.
 fn finish<V: RoutingGraph, P: Penalties>(
     alloc: Global,
-    search: &mut Search<'_, V, P>,
+    search: &mut LabelSearch<'_, V, P>,
 ) -> Result<(), Halt>
     ensures finished { IfOk result (λ _. (search.new.ground ≡ search.old.ground) × IsFinished search.new) }
     ensures halted { IfErr result (λ halt. IsHalted search.old search.new halt) }
@@ -106,44 +109,27 @@ fn finish<V: RoutingGraph, P: Penalties>(
     search.sweep()
 }
 
-/// The same within limits.
-fn finish_within<V: RoutingGraph, P: Penalties>(
-    alloc: Global,
-    search: &mut Search<'_, V, P>,
-) -> Result<(), Halt>
-    ensures finished { IfOk result (λ _. (search.new.ground ≡ search.old.ground) × IsFinished search.new) }
-    ensures halted { IfErr result (λ halt. IsHalted search.old search.new halt) }
-{
-    search.settle_within(alloc)?;
-    search.sweep()
-}
-
-/// The same, found by several workers.
-pub(crate) fn best_walk_chunked<
-    Rt: Threads + Sync,
-    G: Gate,
-    V: RoutingGraph + Sync,
-    P: Penalties + Sync,
->(
+/// The best walk between numbered nodes, found by several workers, whatever it takes.
+pub(crate) fn walk_pooled<Rt: Threads + Sync, G: Gate, V: RoutingGraph + Sync, P: Penalties + Sync>(
     pool: &Pool<'_, Rt, G>,
     view: &V,
     request: &NumberedRequest<P>,
-) -> Result<Option<Vec<Edge>>, AllocError>
+) -> Result<WalkFound, SearchFault>
     requires { (1 ≤ request.now.most_hops) × (request.now.most_hops ≤ 20) }
-    ensures { IfOk result (λ best. IsBestWalk (edges (V.graph view.now))
-        (asked (P.terms request.now.penalties) request.now) (option_map (λ walk. walk.items) best)) }
+    ensures found { IsWalkFound (edges (V.graph view.now)) (asked (P.terms request.now.penalties) request.now) result }
+    ensures sure { IsCutShort result → ⊥ }
 {
     let mut search = begin(pool.alloc, view, request, SearchBudget::any())?;
     match finish_chunked(pool, &mut search) {
-        Ok(()) => search.best_walk(pool.alloc),
-        Err(_) => Err(AllocError),
+        Ok(()) => best_found(pool.alloc, &search),
+        Err(_halt) => Err(SearchFault::Fault(RouteFault::NoMemory)),
     }
 }
 
 /// Settles all labels of a search, by several workers.
 fn finish_chunked<Rt: Threads + Sync, G: Gate, V: RoutingGraph + Sync, P: Penalties + Sync>(
     pool: &Pool<'_, Rt, G>,
-    search: &mut Search<'_, V, P>,
+    search: &mut LabelSearch<'_, V, P>,
 ) -> Result<(), Halt>
     ensures { IfOk result (λ _. (search.new.ground ≡ search.old.ground) × IsFinished search.new) }
 {

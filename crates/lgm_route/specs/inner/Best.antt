@@ -13,7 +13,9 @@ use Rattle.lgm_route.specs.inner.Numbered.{sent, delay, most_delay, IsRest, IsUs
 use Rattle.lgm_graph.specs.Route.{expiry}
 use Rattle.lgm_route.specs.Routes as routes
 use Rattle.lgm_route.specs.Preferred.{IsWithin}
+use Rattle.lgm_route.specs.declared.fault.RouteFault.{RouteFault}
 use Rattle.lgm_route.specs.declared.fault.RouteFault.TheVariants.{NoRoute, NoMemory}
+use Rattle.lgm_route.specs.declared.found.Found.{Found}
 use Rattle.lgm_route.specs.declared.found.SearchFault.{SearchFault}
 use Rattle.lgm_route.specs.declared.found.SearchFault.TheVariants.{Fault, Undecided}
 use Rattle.lgm_route.specs.declared.found.WalkFound.{WalkFound}
@@ -123,6 +125,10 @@ IsUsedUp edges request budget =
     ((budget.most_labels < 2 ^ 64 - 1) × HaveRests edges request (min budget.most_labels (2 ^ 32)))
     ⊎ (budget.most_steps < 2 ^ 64 - 1)
 
+-- any number of labels and steps
+abbrev pub any_budget : SearchBudget
+any_budget = record { most_labels = 2 ^ 64 - 1; most_steps = 2 ^ 64 - 1 }
+
 -- what a search within a budget found: a usable walk, which may be the best one; or that none is usable
 abbrev pub IsWalkFound : List Edge → Ask → Result WalkFound SearchFault → Type 0
 IsWalkFound edges request (Ok found) =
@@ -137,3 +143,15 @@ abbrev pub IsCutShort : Result WalkFound SearchFault → Type 0
 IsCutShort (Ok found) = found.is_best ≡ false
 IsCutShort (Err Undecided) = Unit {0}
 IsCutShort (Err (Fault fault)) = ⊥
+
+-- what was found without limits is the answer within these: the best route, which is within them, or a fault
+abbrev pub is_settled : RouteLimits → ℕ → Result Found SearchFault → Bool
+is_settled limits height (Ok found) = found.is_best && hops_within limits height found.route
+is_settled limits height (Err Undecided) = false
+is_settled limits height (Err (Fault fault)) = true
+
+-- the route, or why there is none, where the budget can't run out
+abbrev pub certain : Result Found SearchFault → Result (List Hop) RouteFault
+certain (Ok found) = Ok found.route
+certain (Err (Fault fault)) = Err fault
+certain (Err Undecided) = Err NoRoute

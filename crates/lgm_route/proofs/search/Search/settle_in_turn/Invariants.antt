@@ -1,5 +1,0 @@
-use Rattle.lgm_route.specs.inner.SearchState.{Extends}
-use Rattle.lgm_route.proofs.search.Search.settle_in_turn.Given as goal
-
-abbrev pub invariant-loop-i : goal.invariant-loop-i
-invariant-loop-i g l = Extends l.fn.self l.self

@@ -1,5 +1,0 @@
-use Rattle.lgm_route.specs.inner.SearchState.{Extends}
-use Rattle.lgm_route.proofs.search.Search.settle_queue.Given as goal
-
-abbrev pub invariant-loop-turn : goal.invariant-loop-turn
-invariant-loop-turn g l = Extends l.fn.self l.self

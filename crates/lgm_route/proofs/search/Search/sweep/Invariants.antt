@@ -1,9 +1,0 @@
-use Rattle.std.proofs.Common.{◌<◌, ℕ}
-use Rattle.lgm_route.specs.inner.SearchState.{Extends, IsMarkedAt}
-use Rattle.lgm_route.proofs.search.Search.sweep.Given as goal
-
-abbrev pub invariant-loop-i : goal.invariant-loop-i
-invariant-loop-i g l = record {
-  extends : Extends l.fn.self l.self;
-  marked : (j : ℕ) → j < l.i → IsMarkedAt l.self j;
-}
