@@ -1,14 +1,18 @@
 -- When a route is searched for, and what the search for an attempt gives.
 use Rattle.std.proofs.Common.{◌≡◌, ℕ, Bool, true, false, List, length, Option, Some, None, Result, Ok, Err}
-use Rattle.std.proofs.Common.{inl, inr, refl, sym, ap, subst, ◌∙◌, nat_lt}
-use Rattle.std.specs.Prelude.{if◌then◌else◌}
+use Rattle.std.proofs.Common.{inl, inr, refl, sym, ap, subst, ◌∙◌, nat_lt, arith}
+use Rattle.std.specs.Prelude.{if◌then◌else◌, All}
 use Rattle.std.specs.Result.{IsErrAnd}
 use Rattle.lgm_graph.specs.declared.route.Hop.{Hop}
 use Rattle.lgm_graph.specs.Edges.{PointEdge, AreKeyed}
 use Rattle.lgm_graph.specs.Overlay.{IsNeutral}
 use Rattle.lgm_route.specs.Answers.{refusal}
 use Rattle.lgm_route.specs.Choice.{answer_of, found_by}
-use Rattle.lgm_route.specs.Preferred.{penalty_at, preferred_answer, preferred_walk, no_limits, IsBeyond, NothingPreferred}
+use Rattle.lgm_route.specs.Preferred.{penalty_at, preferred_answer, preferred_walk, no_limits, IsRouteBy, IsCutShort, IsUsedUp, IsBeyond, HasNoPenalty, NothingPreferred}
+use Rattle.lgm_route.specs.Preferred as routes
+use Rattle.lgm_route.specs.declared.preferences.Preferences.{Preferences}
+use Rattle.lgm_route.specs.declared.search.Search.{Search}
+use Rattle.lgm_graph.specs.Estimates.{Entries}
 use Rattle.lgm_route.specs.declared.limits.RouteLimits.{RouteLimits}
 use Rattle.lgm_route.specs.declared.request.Request.{Request}
 use Rattle.lgm_route.specs.declared.fault.RouteFault.{RouteFault}
@@ -144,7 +148,7 @@ module _ (payment : LgmPayment) (known : Option (List ℕ)) (rows : Rows) where
   -- the search never stops
   pub never_stops : MayStop plain known rows → ⊥
   never_stops stops =
-      never_beyond (edges_for plain known rows) plain.request (stops.beyond (record { preferences = refl; known = refl }))
+      never_beyond (edges_for plain known rows) plain.request (stops.beyond (record { preferences = refl; known = λ i d within. absurd (omega arith) }))
 
   -- its answer is that of the map's edges
   pub is_asked : NothingPreferred → IsNeutral → AreKeyed (edges_for plain known rows)
@@ -152,3 +156,38 @@ module _ (payment : LgmPayment) (known : Option (List ℕ)) (rows : Rows) where
   is_asked nothing neutral keyed =
       ap (routed_in rows) (nothing (edges_for plain known rows) plain.request keyed
       ∙ ap (λ all. answer_of all plain.request) (neutral known rows))
+
+-- what a search returns that is made as an attempt says
+module _ (attempt : AttemptParts) (known : Option (List ℕ)) (rows : Rows) (search : Search)
+    (preferences : search.preferences ≡ attempt.preferences) (believed : search.estimates.now ≡ attempt.known)
+    (limits : search.limits ≡ attempt.limits) (budget : search.budget ≡ attempt.budget) where
+  -- over some edges for some payment
+  abbrev Answered : Preferences → Entries → RouteLimits → List PointEdge → Request → Result Found SearchFault → Type 0
+  Answered preferences believed limits edges request result =
+      IsRouteBy (λ answer. answer ≡ preferred_answer (penalty_at preferences believed) limits edges request) limits edges request result
+
+  pub found_as : (edges : List PointEdge) (request : Request) (result : Result Found SearchFault)
+      → edges ≡ edges_for attempt known rows → request ≡ attempt.request
+      → Answered search.preferences search.estimates.now search.limits edges request result
+      → (IsCutShort result → IsUsedUp search.limits edges request search.budget)
+      → (routes.PrefersNothing search → IsCutShort result → IsBeyond search.limits edges request)
+      → IsFound attempt known rows result
+  found_as edges request result same asked is used beyond = record {
+    answer = subst (λ p. Answered p attempt.known attempt.limits (edges_for attempt known rows) attempt.request result) preferences
+        (subst (λ k. Answered search.preferences k attempt.limits (edges_for attempt known rows) attempt.request result) believed
+        (subst (λ l. Answered search.preferences search.estimates.now l (edges_for attempt known rows) attempt.request result) limits
+        (subst (λ e. Answered search.preferences search.estimates.now search.limits e attempt.request result) same
+        (subst (λ r. Answered search.preferences search.estimates.now search.limits edges r result) asked is))));
+    stops = λ cut. record {
+      used_up = subst (λ l. IsUsedUp l (edges_for attempt known rows) attempt.request attempt.budget) limits
+          (subst (λ b. IsUsedUp search.limits (edges_for attempt known rows) attempt.request b) budget
+          (subst (λ e. IsUsedUp search.limits e attempt.request search.budget) same
+          (subst (λ r. IsUsedUp search.limits edges r search.budget) asked (used cut))));
+      beyond = λ none. subst (λ l. IsBeyond l (edges_for attempt known rows) attempt.request) limits
+          (subst (λ e. IsBeyond search.limits e attempt.request) same
+          (subst (λ r. IsBeyond search.limits edges r) asked (beyond (record {
+            preferences = preferences ∙ none.preferences;
+            known = subst (All HasNoPenalty) (sym believed) none.known;
+          }) cut)));
+    };
+  }

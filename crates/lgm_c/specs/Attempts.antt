@@ -1,5 +1,5 @@
 -- A payment over what its payer knows and prefers, within limits: what C says of it, and what is asked.
-use Rattle.std.specs.Prelude.{◌≡◌, ◌⊎◌, ℕ, nat_eq, nat_lt, Bool, true, false, if◌then◌else◌, List, [], map, length, Option, None, Some}
+use Rattle.std.specs.Prelude.{◌≡◌, ◌⊎◌, ℕ, nat_eq, nat_lt, Bool, true, false, if◌then◌else◌, List, [], All, map, length, Option, None, Some}
 use Rattle.std.specs.Prelude.{Result, Err}
 use Rattle.std.specs.List.{list_any}
 use Rattle.lgm_wire.specs.declared.point.Point.{Point}
@@ -10,7 +10,7 @@ use Rattle.lgm_graph.specs.declared.overlay.ExtraEdge.{ExtraEdge}
 use Rattle.lgm_graph.specs.declared.overlay.Limit.{Limit}
 use Rattle.lgm_graph.specs.declared.route.Hop.{Hop}
 use Rattle.lgm_graph.specs.Estimates.{Entries}
-use Rattle.lgm_route.specs.Preferred.{penalty_at, preferred_answer, no_preferences, no_limits, IsSomeRoute, IsBeyond, IsUsedUp}
+use Rattle.lgm_route.specs.Preferred.{penalty_at, preferred_answer, no_preferences, no_limits, HasNoPenalty, IsSomeRoute, IsBeyond, IsUsedUp}
 use Rattle.lgm_route.specs.declared.fault.RouteFault.{RouteFault}
 use Rattle.lgm_route.specs.declared.limits.RouteLimits.{RouteLimits}
 use Rattle.lgm_route.specs.declared.limits.SearchBudget.{SearchBudget}
@@ -151,10 +151,10 @@ unsearched attempt rows =
 
 -- ---- the answer
 
--- a payer that prefers nothing and believes nothing of any edge
+-- a payer that prefers nothing and knows of no edge with a penalty
 pub record PrefersNothing (attempt : AttemptParts) : Type 0 where
   pub preferences : attempt.preferences ≡ no_preferences
-  pub known : attempt.known ≡ []
+  pub known : All HasNoPenalty attempt.known
 
 -- the edges that it may take
 abbrev pub edges_for : AttemptParts → Option (List ℕ) → Rows → List PointEdge
@@ -174,7 +174,7 @@ abbrev pub route_over : AttemptParts → Option (List ℕ) → Rows → Result (
 route_over attempt known rows =
     unless_wrong (wrong_argument attempt.overlay) (routed_in rows (answer_for attempt (edges_for attempt known rows)))
 
--- the search may stop before it found the best walk: its budget can run out. Without preferences this takes a limit that excludes
+-- the search may stop before it found the best walk: its budget can run out. Without penalties this takes a limit that excludes
 -- the walk that sends least of all
 pub record MayStop (attempt : AttemptParts) (known : Option (List ℕ)) (rows : Rows) : Type 0 where
   pub used_up : IsUsedUp attempt.limits (edges_for attempt known rows) attempt.request attempt.budget

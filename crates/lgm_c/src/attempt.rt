@@ -10,7 +10,7 @@ use crate::argument_fault::ArgumentFault;
 use crate::routes::{LgmPayment, request_of};
 use lgm_gossip::{Point, Scid};
 use lgm_graph::{Estimates, ExtraEdge, Limit, Overlay};
-use lgm_route::{Preferences, Request, RouteLimits, SearchBudget};
+use lgm_route::{Preferences, Request, RouteLimits, Search, SearchBudget};
 use std::alloc::{AllocError, Global};
 use std::marker::Model;
 
@@ -119,15 +119,6 @@ impl LgmSearch {
         }
     }
 
-    fn preferences(&self) -> Preferences
-        ensures { result ≡ preferences_given self.now }
-    {
-        Preferences {
-            failure_msat: self.failure_msat,
-            hop_msat: self.hop_msat,
-        }
-    }
-
     fn limits(&self) -> RouteLimits
         ensures { result ≡ limits_given self.now }
     {
@@ -159,6 +150,24 @@ impl LgmSearch {
             } else {
                 self.most_steps
             },
+        }
+    }
+
+    /// How a route is sought, with what is believed of edges.
+    fn with<'e>(&self, estimates: &'e Estimates) -> Search<'e>
+        ensures preferences { result.preferences ≡ preferences_given self.now }
+        ensures known { result.estimates.now ≡ estimates.entry.now }
+        ensures limits { result.limits ≡ limits_given self.now }
+        ensures budget { result.budget ≡ budget_given self.now }
+    {
+        Search {
+            preferences: Preferences {
+                failure_msat: self.failure_msat,
+                hop_msat: self.hop_msat,
+            },
+            estimates,
+            limits: self.limits(),
+            budget: self.budget(),
         }
     }
 }
@@ -238,22 +247,21 @@ pub struct Attempt<'a, 'e> {
     edges: &'a [LgmEdge],
     limits: &'a [LgmLimit],
     silent: &'a [LgmPoint],
-    estimates: &'e Estimates,
-    search: LgmSearch,
+    search: Search<'e>,
 }
 
 impl<'a, 'e> Model for Attempt<'a, 'e> {
-    ghost use Rattle.lgm_c.specs.Attempts.{AttemptParts, overlay_given, preferences_given, limits_given, budget_given};
+    ghost use Rattle.lgm_c.specs.Attempts.{AttemptParts, overlay_given};
 
     ghost Value = { AttemptParts };
 
     ghost view = { λ a. record {
       request = a.request;
       overlay = overlay_given a.edges.now a.limits.now a.silent.now;
-      known = a.estimates.now;
-      preferences = preferences_given a.search;
-      limits = limits_given a.search;
-      budget = budget_given a.search;
+      known = a.search.estimates.now;
+      preferences = a.search.preferences;
+      limits = a.search.limits;
+      budget = a.search.budget;
     } };
 }
 
@@ -296,8 +304,7 @@ impl<'a, 'e> Attempt<'a, 'e> {
             edges,
             limits,
             silent,
-            estimates,
-            search: *search,
+            search: search.with(estimates),
         }
     }
 
@@ -308,32 +315,14 @@ impl<'a, 'e> Attempt<'a, 'e> {
         &self.request
     }
 
-    /// What the payer believes of edges.
-    pub(crate) fn estimates(&self) -> &Estimates
-        ensures { result.now ≡ self.now.known }
+    /// How a route for it is sought.
+    pub(crate) fn search(&self) -> &Search<'e>
+        ensures preferences { result.now.preferences ≡ self.now.preferences }
+        ensures known { result.now.estimates.now ≡ self.now.known }
+        ensures limits { result.now.limits ≡ self.now.limits }
+        ensures budget { result.now.budget ≡ self.now.budget }
     {
-        self.estimates
-    }
-
-    /// What it prefers.
-    pub(crate) fn preferences(&self) -> Preferences
-        ensures { result ≡ self.now.preferences }
-    {
-        self.search.preferences()
-    }
-
-    /// The limits of its route.
-    pub(crate) fn limits(&self) -> RouteLimits
-        ensures { result ≡ self.now.limits }
-    {
-        self.search.limits()
-    }
-
-    /// What may be spent on the search for it.
-    pub(crate) fn budget(&self) -> SearchBudget
-        ensures { result ≡ self.now.budget }
-    {
-        self.search.budget()
+        &self.search
     }
 
     /// Whether one of the edges has no maximum: it would carry nothing.

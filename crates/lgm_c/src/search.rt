@@ -8,7 +8,7 @@ ghost use Rattle.lgm_c.specs.inner.Searching.{IsFound, IsRouted, IsReasonFound, 
 use crate::attempt::Attempt;
 use crate::fault::Fault;
 use lgm_graph::{MAX_CHANNELS, Network};
-use lgm_route::{Found, NoRouteReason, SearchFault, answer_preferred, no_route_reason};
+use lgm_route::{Found, NoRouteReason, SearchFault, find_over, no_route_reason};
 use lgm_store::Map;
 use std::alloc::Global;
 
@@ -40,16 +40,13 @@ fn found(alloc: Global, network: &Network, attempt: &Attempt<'_, '_>) -> Result<
         unreachable!();
     };
     let overlay = attempt.overlay(alloc)?;
-    answer_preferred(
+    find_over(
         alloc,
         network.map(),
         view,
         &overlay,
-        &attempt.preferences(),
-        attempt.estimates(),
+        attempt.search(),
         attempt.request(),
-        &attempt.limits(),
-        &attempt.budget(),
     )
 }
 
@@ -97,8 +94,7 @@ pub(crate) fn reason(
         network.map(),
         view,
         &overlay,
+        attempt.search(),
         attempt.request(),
-        &attempt.limits(),
-        &attempt.budget(),
     )
 }

@@ -1,6 +1,6 @@
 //! What a payer would rather pay than use an edge.
 
-ghost use Rattle.std.specs.Prelude.{◌≡◌, ◌≤◌, ◌+◌, ◌^◌, ℕ, Option, None};
+ghost use Rattle.std.specs.Prelude.{◌≡◌, ◌≤◌, ◌+◌, ◌^◌, ℕ, true, Option, None};
 ghost use Rattle.lgm_graph.specs.declared.edge.Edge.{Edge as AnEdge};
 ghost use Rattle.lgm_route.specs.inner.Numbered.{Terms, IsSpent, penalty_of};
 
@@ -15,6 +15,11 @@ pub(crate) trait Penalties: Copy {
     fn add(&self, spent: u64, edge: &Edge, amount: u64) -> u64
         requires { IsSpent (terms self.now) spent }
         ensures { result ≡ spent + penalty_of (terms self.now) edge.now amount };
+
+    /// Whether the penalty of an edge for an amount surely is so much, in msat: told without a lookup and a division, where that
+    /// can be.
+    fn reaches(&self, edge: &Edge, amount: u64, least: u128) -> bool
+        ensures { result ≡ true → least ≤ penalty_of (terms self.now) edge.now amount };
 
     /// A penalty in msat that none is below.
     fn least(&self) -> u64
@@ -32,6 +37,11 @@ impl Penalties for NoPenalties {
     #[inline(always)]
     fn add(&self, _spent: u64, _edge: &Edge, _amount: u64) -> u64 {
         0
+    }
+
+    #[inline(always)]
+    fn reaches(&self, _edge: &Edge, _amount: u64, least: u128) -> bool {
+        least == 0
     }
 
     #[inline(always)]
