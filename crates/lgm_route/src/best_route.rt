@@ -18,30 +18,10 @@ use crate::numbering::numbered;
 use crate::penalties::{NoPenalties, Penalties};
 use crate::request::{LawfulRequest, NumberedRequest};
 use crate::walks::{walk_pooled, walk_within};
-use lgm_graph::{Edge, Route, RoutingGraph};
+use lgm_graph::{Route, RoutingGraph};
 use lgm_par::{Gate, Pool};
-use std::alloc::{AllocError, Global};
+use std::alloc::Global;
 use std::thread::Threads;
-
-/// The route over a usable walk. The only error is out of memory.
-fn route_of<V: RoutingGraph, P: Penalties>(
-    alloc: Global,
-    view: &V,
-    request: &LawfulRequest,
-    numbered: &NumberedRequest<P>,
-    walk: &[Edge],
-) -> Result<Route, AllocError>
-    requires amount { numbered.now.amount ≡ request.now.amount }
-    requires hops { numbered.now.most_hops ≤ 20 }
-    requires usable { IsUsable (edges (V.graph view.now)) (asked (P.terms numbered.now.penalties) numbered.now) walk.now }
-    requires small { sent numbered.now.amount walk.now < 2 ^ 64 }
-    ensures { IfOk result (λ route. route ≡ hops_of request.now (edges_in (V.graph view.now) walk.now)) }
-{
-    // The contract of `nodes` says that the nodes of edges are numbered.
-    let _nodes = view.nodes();
-    let hops = hops(alloc, view, request.get(), walk)?;
-    Ok(Route::from_vec(hops))
-}
 
 /// The route over the walk that a search found, or why it found none.
 fn with_route<V: RoutingGraph, P: Penalties>(
@@ -63,12 +43,12 @@ fn with_route<V: RoutingGraph, P: Penalties>(
 {
     // The contract of `nodes` says that the nodes of edges are numbered.
     let _nodes = graph.nodes();
-    // The contract of `get` says that the payment isn't refused.
-    let _request = request.get();
+    // That of `get` says that the payment isn't refused.
+    let payment = request.get();
     let found = found?;
-    let route = route_of(alloc, graph, request, numbered, &found.walk)?;
+    let hops = hops(alloc, graph, payment, &found.walk)?;
     Ok(Found {
-        route,
+        route: Route::from_vec(hops),
         is_best: found.is_best,
     })
 }

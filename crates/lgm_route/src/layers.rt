@@ -1,7 +1,7 @@
 //! Settling labels by several workers: frontier by frontier, then best-first, and then by layers.
 
-ghost use Rattle.std.specs.Prelude.{◌<◌, ◌≤◌, length, All, IfOk};
-ghost use Rattle.lgm_route.specs.inner.SearchState.{Extends};
+ghost use Rattle.std.specs.Prelude.{◌≡◌, ◌<◌, ◌≤◌, length, All, IfOk};
+ghost use Rattle.lgm_route.specs.inner.SearchState.{Extends, IsFinished};
 
 use crate::halt::Halt;
 use crate::label_search::LabelSearch;
@@ -161,20 +161,19 @@ impl<'a, V: RoutingGraph + Sync, P: Penalties + Sync> LabelSearch<'a, V, P> {
         Ok(())
     }
 
-    /// Settles labels: the first ones frontier by frontier, then best-first, and, if many remain, by their number of
+    /// Settles all labels: the first ones frontier by frontier, then best-first, and, if many remain, by their number of
     /// edges.
     pub(crate) fn settle_chunked<Rt: Threads + Sync, G: Gate>(
         &mut self,
         pool: &Pool<'_, Rt, G>,
     ) -> Result<(), Halt>
-        ensures { IfOk result (λ _. Extends self.old self.new) }
+        ensures { IfOk result (λ _. (self.new.ground ≡ self.old.ground) × IsFinished self.new) }
     {
         let mut queue = Queue::of(pool.alloc, self)?;
         self.settle_early(pool, &mut queue)?;
-        if self.settle_queue(&mut queue, ALONE)? {
-            return Ok(());
+        if !self.settle_queue(&mut queue, ALONE)? {
+            self.settle_layers(pool)?;
         }
-        self.settle_layers(pool)?;
-        Ok(())
+        self.sweep()
     }
 }

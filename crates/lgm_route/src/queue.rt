@@ -1,7 +1,7 @@
 //! Settling labels best-first (A\*), and the frontiers of those with the least lower bound.
 
-ghost use Rattle.std.specs.Prelude.{◌<◌, length, All, IfOk, IfErr, IfSome};
-ghost use Rattle.lgm_route.specs.inner.SearchState.{Extends, IsHalted};
+ghost use Rattle.std.specs.Prelude.{◌≡◌, ◌<◌, length, All, IfOk, IfErr, IfSome};
+ghost use Rattle.lgm_route.specs.inner.SearchState.{Extends, IsFinished, IsHalted};
 
 use crate::bounds::Measure;
 use crate::entry::Entry;
@@ -155,19 +155,18 @@ impl<'a, V: RoutingGraph, P: Penalties> LabelSearch<'a, V, P> {
             .saturating_add(self.lower_bound(label.node))
     }
 
-    /// Settles labels best-first until the remaining ones can be pruned. Where many labels led to no walk, a quick one is
+    /// Settles all labels, best-first until the remaining ones can be pruned. Where many labels led to no walk, a quick one is
     /// looked for.
     pub(crate) fn settle_best_first(&mut self, alloc: Global) -> Result<(), Halt>
-        ensures extends { IfOk result (λ _. Extends self.old self.new) }
+        ensures finished { IfOk result (λ _. (self.new.ground ≡ self.old.ground) × IsFinished self.new) }
         ensures halted { IfErr result (λ halt. IsHalted self.old self.new halt) }
     {
         let mut queue = Queue::of(alloc, self)?;
-        if self.settle_first(&mut queue)? {
-            return Ok(());
+        if !self.settle_first(&mut queue)? {
+            self.seek_quick_walk(alloc, &mut queue)?;
+            self.settle_queue(&mut queue, usize::MAX)?;
         }
-        self.seek_quick_walk(alloc, &mut queue)?;
-        self.settle_queue(&mut queue, usize::MAX)?;
-        Ok(())
+        self.sweep()
     }
 
     /// Settles the labels of a queue best-first until there are many. Returns whether the remaining ones can be pruned.

@@ -5,7 +5,6 @@ ghost use Rattle.lgm_graph.specs.Graph.{IsGraphOf, point_edges};
 ghost use Rattle.lgm_graph.specs.Overlay.{overlaid_edges};
 ghost use Rattle.lgm_route.specs.Reasons.{HasRoute, HasNone, IsExplained, IsReason, IsUnexplained, NoneBefore};
 ghost use Rattle.lgm_route.specs.Reasons.{delay_alone, hops_alone};
-ghost use Rattle.lgm_route.specs.inner.Seeking.{unless_no_route};
 ghost use Rattle.lgm_route.specs.declared.limits.RouteLimits.{RouteLimits as Limits};
 
 use crate::fault::RouteFault;
@@ -45,17 +44,8 @@ fn has_route<V: RoutingGraph>(
     match found(alloc, graph, &search, request) {
         Ok(_found) => Ok(true),
         Err(SearchFault::Undecided) => Err(SearchFault::Undecided),
-        Err(SearchFault::Fault(fault)) => unless_no_route(fault),
-    }
-}
-
-/// That there is no route, or another fault.
-fn unless_no_route(fault: RouteFault) -> Result<bool, SearchFault>
-    ensures { result ≡ unless_no_route fault }
-{
-    match fault {
-        RouteFault::NoRoute => Ok(false),
-        fault => Err(SearchFault::Fault(fault)),
+        Err(SearchFault::Fault(RouteFault::NoRoute)) => Ok(false),
+        Err(SearchFault::Fault(fault)) => Err(SearchFault::Fault(fault)),
     }
 }
 
@@ -80,18 +70,20 @@ fn reason_at_ends<V: RoutingGraph>(graph: &V, request: &Request) -> Option<NoRou
     None
 }
 
-/// The reason between the ends of a payment, if there is one. Each search has the whole budget.
-fn reason_between<V: RoutingGraph>(
+/// The reason, if there is one: at the ends, or between them, where each search has the whole budget.
+fn reason_over<V: RoutingGraph>(
     alloc: Global,
     graph: &V,
     search: &Search<'_>,
     request: &LawfulRequest,
 ) -> Result<Option<NoRouteReason>, SearchFault>
-    requires { NoneBefore 45 search.now.limits (point_edges (V.graph graph.now)) request.now }
     ensures reason { IfOk result (λ found. IsExplained found search.now.limits (point_edges (V.graph graph.now)) request.now) }
     ensures unknown { IfErr result (λ fault. IsUnexplained (point_edges (V.graph graph.now)) request.now search.now.budget fault) }
 {
     let (limits, budget) = (&search.limits, &search.budget);
+    if let Some(reason) = reason_at_ends(graph, request.get()) {
+        return Ok(Some(reason));
+    }
     if !has_route(alloc, graph, request, &RouteLimits::none(), budget)? {
         return Ok(Some(NoRouteReason::Unconnected));
     }
@@ -105,22 +97,6 @@ fn reason_between<V: RoutingGraph>(
         return Ok(Some(NoRouteReason::BeyondBoth));
     }
     Ok(None)
-}
-
-/// The reason, if there is one: at the ends, or between them.
-fn reason_over<V: RoutingGraph>(
-    alloc: Global,
-    graph: &V,
-    search: &Search<'_>,
-    request: &LawfulRequest,
-) -> Result<Option<NoRouteReason>, SearchFault>
-    ensures reason { IfOk result (λ found. IsExplained found search.now.limits (point_edges (V.graph graph.now)) request.now) }
-    ensures unknown { IfErr result (λ fault. IsUnexplained (point_edges (V.graph graph.now)) request.now search.now.budget fault) }
-{
-    match reason_at_ends(graph, request.get()) {
-        Some(reason) => Ok(Some(reason)),
-        None => reason_between(alloc, graph, search, request),
-    }
 }
 
 /// Why a payment has no route within limits over a map with its view and an overlay: the first reason that holds. None if it

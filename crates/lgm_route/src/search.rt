@@ -1,7 +1,7 @@
 //! How a route is sought.
 
-ghost use Rattle.std.specs.Prelude.{◌≡◌, [], All, true};
-ghost use Rattle.lgm_route.specs.Preferred.{PrefersNothing, HasNoPenalty, no_preferences, no_limits};
+ghost use Rattle.std.specs.Prelude.{◌≡◌, true};
+ghost use Rattle.lgm_route.specs.Preferred.{PrefersNothing};
 
 use crate::limits::{RouteLimits, SearchBudget};
 use crate::preferences::Preferences;
@@ -20,27 +20,22 @@ pub struct Search<'a> {
     pub budget: SearchBudget,
 }
 
-/// Whether no edge of which something is known has a penalty.
-fn have_no_penalty(estimates: &Estimates) -> bool
-    ensures none { result ≡ true → All HasNoPenalty estimates.now }
-    ensures some { All HasNoPenalty estimates.now → result ≡ true }
-{
-    for place in 0..estimates.len() {
-        if let Some((_key, estimate)) = estimates.at(place) {
-            if estimate.penalty != 0 {
-                return false;
-            }
-        }
-    }
-    true
-}
-
 impl<'a> Search<'a> {
     /// Whether each edge costs its fee alone: nothing is preferred, and no edge of which something is known has a penalty.
     pub(crate) fn is_plain(&self) -> bool
         ensures plain { result ≡ true → PrefersNothing self.now }
         ensures all { PrefersNothing self.now → result ≡ true }
     {
-        self.preferences.are_none() && have_no_penalty(self.estimates)
+        if !self.preferences.are_none() {
+            return false;
+        }
+        for place in 0..self.estimates.len() {
+            if let Some((_key, estimate)) = self.estimates.at(place) {
+                if estimate.penalty != 0 {
+                    return false;
+                }
+            }
+        }
+        true
     }
 }

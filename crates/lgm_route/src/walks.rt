@@ -1,10 +1,10 @@
 //! The best walk between numbered nodes.
 
-ghost use Rattle.std.specs.Prelude.{◌≡◌, ◌≤◌, ◌^◌, IfOk, IfErr};
+ghost use Rattle.std.specs.Prelude.{◌≡◌, ◌≤◌, ◌^◌, true, IfOk};
 ghost use Rattle.lgm_graph.specs.Graph.{edges, AreListed};
 ghost use Rattle.lgm_route.specs.inner.Best.{IsWalkFound, IsCutShort, IsUsedUp};
 ghost use Rattle.lgm_route.specs.inner.Numbered.{asked};
-ghost use Rattle.lgm_route.specs.inner.SearchState.{IsBegun, IsFinished, IsHalted, IsSearch};
+ghost use Rattle.lgm_route.specs.inner.SearchState.{IsBegun, IsFinished, IsSearch};
 ghost use Rattle.lgm_route.specs.inner.Searching.{IsUpperBound};
 
 use crate::bounds::lower_bounds;
@@ -51,39 +51,24 @@ pub(crate) fn walk_within<V: RoutingGraph, P: Penalties>(
         → IsUsedUp (edges (V.graph view.now)) (asked (P.terms request.now.penalties) request.now) budget.now }
 {
     let mut search = begin(alloc, view, request, *budget)?;
-    match finish(alloc, &mut search) {
-        Ok(()) => best_found(alloc, &search),
+    match search.settle_best_first(alloc) {
+        Ok(()) => best_found(alloc, &search, true),
         Err(halt) => match halt {
             Halt::NoMemory => Err(SearchFault::Fault(RouteFault::NoMemory)),
-            _ => best_so_far(alloc, &search),
+            _ => best_found(alloc, &search, false),
         },
     }
 }
 
-/// The best walk of a finished search.
+/// The best walk of a search, which is finished, or stopped: then it is the best one so far.
 fn best_found<V: RoutingGraph, P: Penalties>(
     alloc: Global,
     search: &LabelSearch<'_, V, P>,
+    is_finished: bool,
 ) -> Result<WalkFound, SearchFault>
-    requires { IsFinished search.now }
+    requires { is_finished ≡ true → IsFinished search.now }
     ensures found { IsWalkFound (edges search.now.ground.graph) search.now.ground.request result }
-    ensures sure { IsCutShort result → ⊥ }
-{
-    match search.best_walk(alloc)? {
-        Some(walk) => Ok(WalkFound {
-            walk,
-            is_best: true,
-        }),
-        None => Err(SearchFault::Fault(RouteFault::NoRoute)),
-    }
-}
-
-/// The best walk so far of a search that stopped.
-fn best_so_far<V: RoutingGraph, P: Penalties>(
-    alloc: Global,
-    search: &LabelSearch<'_, V, P>,
-) -> Result<WalkFound, SearchFault>
-    ensures found { IsWalkFound (edges search.now.ground.graph) search.now.ground.request result }
+    ensures sure { is_finished ≡ true → IsCutShort result → ⊥ }
     ensures search { IsSearch search.now }
 {
     // The contract of `len` says that no two labels represent one rest.
@@ -91,22 +76,11 @@ fn best_so_far<V: RoutingGraph, P: Penalties>(
     match search.best_walk(alloc)? {
         Some(walk) => Ok(WalkFound {
             walk,
-            is_best: false,
+            is_best: is_finished,
         }),
+        None if is_finished => Err(SearchFault::Fault(RouteFault::NoRoute)),
         None => Err(SearchFault::Undecided),
     }
-}
-
-/// Settles all labels of a search, best-first.
-fn finish<V: RoutingGraph, P: Penalties>(
-    alloc: Global,
-    search: &mut LabelSearch<'_, V, P>,
-) -> Result<(), Halt>
-    ensures finished { IfOk result (λ _. (search.new.ground ≡ search.old.ground) × IsFinished search.new) }
-    ensures halted { IfErr result (λ halt. IsHalted search.old search.new halt) }
-{
-    search.settle_best_first(alloc)?;
-    search.sweep()
 }
 
 /// The best walk between numbered nodes, found by several workers, whatever it takes.
@@ -120,21 +94,10 @@ pub(crate) fn walk_pooled<Rt: Threads + Sync, G: Gate, V: RoutingGraph + Sync, P
     ensures sure { IsCutShort result → ⊥ }
 {
     let mut search = begin(pool.alloc, view, request, SearchBudget::any())?;
-    match finish_chunked(pool, &mut search) {
-        Ok(()) => best_found(pool.alloc, &search),
+    match search.settle_chunked(pool) {
+        Ok(()) => best_found(pool.alloc, &search, true),
         Err(_halt) => Err(SearchFault::Fault(RouteFault::NoMemory)),
     }
-}
-
-/// Settles all labels of a search, by several workers.
-fn finish_chunked<Rt: Threads + Sync, G: Gate, V: RoutingGraph + Sync, P: Penalties + Sync>(
-    pool: &Pool<'_, Rt, G>,
-    search: &mut LabelSearch<'_, V, P>,
-) -> Result<(), Halt>
-    ensures { IfOk result (λ _. (search.new.ground ≡ search.old.ground) × IsFinished search.new) }
-{
-    search.settle_chunked(pool)?;
-    search.sweep()
 }
 
 /// The greatest penalties of the edges of a walk, in msat.
