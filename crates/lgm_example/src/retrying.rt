@@ -5,8 +5,7 @@ use crate::messages::{point, scid};
 use lgm_graph::{Estimates, ExtraEdge, Hop, Overlay, Route};
 use lgm_publish::{Eye, Guard};
 use lgm_route::{
-    Found, Preferences, Request, RouteFault, RouteLimits, SearchBudget, SearchFault,
-    answer_preferred,
+    Found, Preferences, Request, RouteFault, RouteLimits, Search, SearchBudget, SearchFault, find_over,
 };
 use std::alloc::{AllocError, Global};
 use std::fmt;
@@ -138,17 +137,13 @@ fn find(
     if view.nodes() > 4_000_000_000 || knowledge.own.extra_count() > 1_000_000 {
         return Err(SearchFault::Fault(RouteFault::NoMemory));
     }
-    answer_preferred(
-        alloc,
-        guard.map(),
-        view,
-        &knowledge.own,
-        &PREFERENCES,
-        &knowledge.estimates,
-        request,
-        &LIMITS,
-        &BUDGET,
-    )
+    let search = Search {
+        preferences: PREFERENCES,
+        estimates: &knowledge.estimates,
+        limits: LIMITS,
+        budget: BUDGET,
+    };
+    find_over(alloc, guard.map(), view, &knowledge.own, &search, request)
 }
 
 /// Offers the payment along a route, and learns from it if it fails. Returns how the payment ends, if it does.

@@ -2,7 +2,7 @@
 
 ghost use Rattle.std.specs.Prelude.{◌≡◌, [], length, slice_get, false, IfOk, OnOk, OnErr};
 ghost use Rattle.std.specs.Option.{is_some};
-ghost use Rattle.lgm_graph.specs.Estimates.{IsEstimated, IsForgotten, carried, failed, estimate_of, known_of, no_estimate};
+ghost use Rattle.lgm_graph.specs.Estimates.{IsEstimated, IsForgotten, carried, failed, estimate_of, known_of};
 
 use crate::edge_filter::EdgeFilter;
 use crate::estimate::{EdgeKey, Estimate, NO_ESTIMATE};
@@ -45,22 +45,13 @@ impl Estimates {
         }
     }
 
-    /// Whether something may be known of the edge with an id out of a node. Mostly false if nothing is. Costs a look at one
-    /// bit.
-    #[inline(always)]
-    pub fn may_know(&self, scid: Scid, from: &Point) -> bool
-        ensures { result ≡ false → estimate_of self.now scid from.now ≡ no_estimate }
-    {
-        self.filter.may_have(scid, from)
-    }
-
     /// What is believed of the edge with an id out of a node; if nothing is known of it, [`NO_ESTIMATE`]. Costs a look at
     /// one bit, and a lookup by the hash of the id if that is set, and allocates nothing.
     #[inline(always)]
     pub fn get(&self, scid: Scid, from: &Point) -> Estimate
         ensures { result ≡ estimate_of self.now scid from.now }
     {
-        if !self.may_know(scid, from) {
+        if !self.filter.may_have(scid, from) {
             return NO_ESTIMATE;
         }
         match self.entries.get(&EdgeKey { scid, from: *from }) {

@@ -47,14 +47,14 @@ impl<'a, V: RoutingGraph, P: Penalties> Model for ForwardSearch<'a, V, P> {
         (forward_state (V.graph p.view.now) (asked (P.terms p.request.now.penalties) p.request.now) p.measure p.reached) };
 }
 
-/// What an edge adds: its fee and its penalty for the request's amount or its delay, or 0 if the edge is the payer's own. Where
-/// that is as much as what lowers nothing, it may be that much.
+/// What an edge adds: its fee for the request's amount or its delay, or 0 if the edge is the payer's own. The penalty is left
+/// out if the fee alone is as much as what lowers nothing.
 #[inline(always)]
 fn charge<P: Penalties>(
     measure: Measure,
     request: &NumberedRequest<P>,
     edge: &Edge,
-    most: u64,
+    most: u128,
 ) -> u128
     ensures first { edge.now.from ≡ request.now.payer → result ≡ 0 }
     ensures most { result ≤ charged measure (asked (P.terms request.now.penalties) request.now) edge.now }
@@ -65,10 +65,9 @@ fn charge<P: Penalties>(
     }
     match measure {
         Measure::Fees => {
-            let most = u128::from(most);
             let fee = fee(request.amount, edge.base, edge.millionths);
-            if most <= fee || request.penalties.reaches(edge, request.amount, most - fee) {
-                return most;
+            if most <= fee {
+                return fee;
             }
             fee + request.penalties.add(0, edge, request.amount) as u128
         }
@@ -147,7 +146,7 @@ impl<'a, V: RoutingGraph, P: Penalties> ForwardSearch<'a, V, P> {
         if request.amount < edge.min || edge.max < request.amount || request.is_beyond(edge) {
             return Ok(());
         }
-        let most = self.fees_to(edge.to).saturating_sub(start);
+        let most = (self.fees_to(edge.to) as u128).saturating_sub(start as u128);
         let amount = start as u128 + charge(self.measure, request, edge, most);
         if let Some(fees) = self.lower(edge.to, amount, edge.scid)? {
             self.queue(edge.to, fees)?;

@@ -1,7 +1,6 @@
 //! What a payer would rather pay than use an edge.
 
-ghost use Rattle.std.specs.Prelude.{◌≡◌, ◌≤◌, ◌+◌, ◌^◌, ℕ, true, Option, None};
-ghost use Rattle.lgm_graph.specs.declared.edge.Edge.{Edge as AnEdge};
+ghost use Rattle.std.specs.Prelude.{◌≡◌, ◌+◌, Option, None};
 ghost use Rattle.lgm_route.specs.inner.Numbered.{Terms, IsSpent, penalty_of};
 
 use lgm_graph::Edge;
@@ -15,16 +14,6 @@ pub(crate) trait Penalties: Copy {
     fn add(&self, spent: u64, edge: &Edge, amount: u64) -> u64
         requires { IsSpent (terms self.now) spent }
         ensures { result ≡ spent + penalty_of (terms self.now) edge.now amount };
-
-    /// Whether the penalty of an edge for an amount surely is so much, in msat: told without a lookup and a division, where that
-    /// can be.
-    fn reaches(&self, edge: &Edge, amount: u64, least: u128) -> bool
-        ensures { result ≡ true → least ≤ penalty_of (terms self.now) edge.now amount };
-
-    /// A penalty in msat that none is below.
-    fn least(&self) -> u64
-        ensures low { result ≤ 2 ^ 40 }
-        ensures least { (edge : AnEdge) (amount : ℕ) → result ≤ penalty_of (terms self.now) edge amount };
 }
 
 /// No penalties: the walk that sends least is the best.
@@ -36,16 +25,6 @@ impl Penalties for NoPenalties {
 
     #[inline(always)]
     fn add(&self, _spent: u64, _edge: &Edge, _amount: u64) -> u64 {
-        0
-    }
-
-    #[inline(always)]
-    fn reaches(&self, _edge: &Edge, _amount: u64, least: u128) -> bool {
-        least == 0
-    }
-
-    #[inline(always)]
-    fn least(&self) -> u64 {
         0
     }
 }

@@ -1,7 +1,6 @@
 //! What a payer would rather pay than have a payment fail.
 
-ghost use Rattle.std.specs.Prelude.{◌≡◌, ◌*◌, ◌^◌, ◌≤◌, ◌&&◌, nat_eq, true, false, Some, slice_get};
-ghost use Rattle.lgm_graph.specs.Estimates.{no_estimate};
+ghost use Rattle.std.specs.Prelude.{◌≡◌, ◌*◌, ◌^◌, ◌≤◌, ◌&&◌, nat_eq, Some, slice_get};
 ghost use Rattle.lgm_route.specs.Odds.{odds, penalty_by};
 ghost use Rattle.lgm_route.specs.Preferred.{no_preferences};
 ghost use Rattle.lgm_route.specs.inner.Numbered.{known_from, penalty_of};
@@ -59,23 +58,6 @@ impl Preferences {
     }
 }
 
-impl Preferences {
-    /// Whether the penalty of an edge with this maximum, of which nothing is known, is so much for an amount, in msat.
-    #[inline(always)]
-    fn reaches(&self, max: u64, amount: u64, least: u128) -> bool
-        ensures { result ≡ true → least ≤ penalty_by self.now.failure_msat self.now.hop_msat no_estimate max amount }
-    {
-        let hop = u128::from(self.hop_msat);
-        if least <= hop {
-            return true;
-        }
-        let failure = u128::from(self.failure_msat);
-        let room = u128::from(max.saturating_sub(amount)) + 1;
-        let odds = least - hop;
-        odds <= failure * 100 && odds * room <= failure * u128::from(amount)
-    }
-}
-
 /// The greatest penalty of an edge, in msat: 2^40.
 const MOST_PENALTY: u64 = 0x100_0000_0000;
 
@@ -114,18 +96,6 @@ impl<'a, V: RoutingGraph> Clone for Weights<'a, V> {
 impl<'a, V: RoutingGraph> Copy for Weights<'a, V> {}
 
 impl<'a, V: RoutingGraph> Weights<'a, V> {
-    /// Whether something may be known of an edge.
-    #[inline(always)]
-    fn may_know(&self, edge: &Edge) -> bool
-        ensures { result ≡ false → known_from self.now.estimates.now edge.now.scid
-            (slice_get (V.graph self.now.graph.now).points edge.now.from) ≡ no_estimate }
-    {
-        match self.graph.point(edge.from) {
-            Some(from) => self.estimates.may_know(edge.scid, from),
-            None => false,
-        }
-    }
-
     /// What is known of an edge.
     #[inline(always)]
     fn estimate(&self, edge: &Edge) -> Estimate
@@ -151,15 +121,5 @@ impl<'a, V: RoutingGraph> Penalties for Weights<'a, V> {
     fn add(&self, spent: u64, edge: &Edge, amount: u64) -> u64 {
         let estimate = self.estimate(edge);
         spent + self.preferences.penalty(estimate, edge.max, amount)
-    }
-
-    #[inline(always)]
-    fn reaches(&self, edge: &Edge, amount: u64, least: u128) -> bool {
-        !self.may_know(edge) && self.preferences.reaches(edge.max, amount, least)
-    }
-
-    #[inline(always)]
-    fn least(&self) -> u64 {
-        u64::from(self.preferences.hop_msat)
     }
 }

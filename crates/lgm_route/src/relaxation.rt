@@ -56,9 +56,8 @@ impl<'a, V: RoutingGraph, P: Penalties> LabelSearch<'a, V, P> {
         let amount = label.amount as u128 + fee(label.amount, edge.base, edge.millionths);
         let hops = label.hops as u128 + 1;
         let beyond = self.lower_bound(edge.from) as u128;
-        // Most edges are pruned by what they charge and the least penalty, and theirs aren't computed.
-        let least = label.penalty as u128 + request.penalties.least() as u128;
-        if bound <= cost(amount + least + beyond, hops) || amount >= 1 << 64 {
+        // Most edges are pruned by what they charge, and their penalties aren't computed.
+        if bound <= cost(amount + label.penalty as u128 + beyond, hops) || amount >= 1 << 64 {
             return None;
         }
         let delay = self.delay_over(label, edge)?;

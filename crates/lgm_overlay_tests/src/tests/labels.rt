@@ -3,7 +3,7 @@
 use super::made::{Item, Way, estimates_of, free, map_of};
 use super::paid::Asked;
 use lgm_graph::{Known, View};
-use lgm_route::{Found, Request, SearchFault, preferred_in};
+use lgm_route::{Found, Request, SearchFault, find};
 use lgm_store::Map;
 use lgm_test_gossip::{FREE, Numbers, Terms, point};
 use std::alloc::{AllocError, Global};
@@ -84,15 +84,7 @@ fn answer(
     let view = Box::new(alloc, View::of(alloc, map, &Known::all())?)?;
     let estimates = estimates_of(alloc, &[])?;
     let asked = Asked::within(most_delay, most_labels);
-    Ok(preferred_in(
-        alloc,
-        &*view,
-        &asked.preferences,
-        &estimates,
-        request,
-        &asked.limits,
-        &asked.budget,
-    ))
+    Ok(find(alloc, &*view, &asked.search(&estimates), request))
 }
 
 /// Whether it is decided by this many labels.

@@ -2,10 +2,9 @@
 
 use super::made::{Item, Parts, charging, estimates_of, map_of, number, overlay_of};
 use lgm_graph::{Estimates, Known, View};
-use lgm_par::{Open, Pool};
 use lgm_route::{
-    Found, Preferences, Request, Route, RouteFault, RouteLimits, SearchBudget, SearchFault,
-    answer_over, answer_over_chunked, answer_preferred,
+    Found, Preferences, Request, Route, RouteFault, RouteLimits, Search, SearchBudget, SearchFault,
+    find_over,
 };
 use lgm_store::Map;
 use lgm_test_gossip::point;
@@ -13,7 +12,6 @@ use std::alloc::{AllocError, Global};
 use std::fmt;
 use std::process::Abort;
 use std::test::Fail;
-use std::thread::Threads;
 
 /// A hop: its channel id, the numbers of its nodes, its amount in msat and its expiry.
 pub type Told = (u64, u16, u16, u64, u32);
@@ -106,6 +104,25 @@ impl Asked {
             },
         }
     }
+
+    /// Without preferences and limits.
+    pub fn anyhow() -> Asked {
+        Asked {
+            preferences: Preferences::none(),
+            limits: RouteLimits::none(),
+            budget: SearchBudget::any(),
+        }
+    }
+
+    /// The same as a search, by what the payer believes of edges.
+    pub fn search<'a>(&self, estimates: &'a Estimates) -> Search<'a> {
+        Search {
+            preferences: self.preferences,
+            estimates,
+            limits: self.limits,
+            budget: self.budget,
+        }
+    }
 }
 
 /// The answer to a payment over an overlay.
@@ -123,17 +140,8 @@ pub fn found_over(
     let view = Box::new(alloc, View::of(alloc, map, known)?)?;
     let overlay = overlay_of(alloc, parts)?;
     assert!(rt; overlay.extra_count() <= 1_000_000);
-    Ok(answer_preferred(
-        alloc,
-        map,
-        &view,
-        &overlay,
-        &asked.preferences,
-        estimates,
-        request,
-        &asked.limits,
-        &asked.budget,
-    ))
+    let search = asked.search(estimates);
+    Ok(find_over(alloc, map, &view, &overlay, &search, request))
 }
 
 /// The route of an answer, which has to be told as the best one, or as one so far.
@@ -168,10 +176,9 @@ pub fn limited<T>(answer: Result<T, RouteFault>) -> Result<T, SearchFault> {
     Ok(answer?)
 }
 
-/// That a payment over an overlay gets this answer, also from 1, 3 and 64 workers, and within a limit that no route
-/// reaches.
-pub fn assert_over<Rt: Abort + Threads + Sync>(
-    rt: &Rt,
+/// That a payment over an overlay gets this answer, also within a limit that no route reaches.
+pub fn assert_over(
+    rt: &impl Abort,
     alloc: Global,
     map: &Map,
     known: &Known,
@@ -179,30 +186,19 @@ pub fn assert_over<Rt: Abort + Threads + Sync>(
     request: &Request,
     wanted: Result<&[Told], RouteFault>,
 ) -> Result<(), AllocError> {
-    assert!(rt; map.count() <= 1_000_000);
-    let view = Box::new(alloc, View::of(alloc, map, known)?)?;
-    let overlay = overlay_of(alloc, parts)?;
-    assert!(rt; overlay.extra_count() <= 1_000_000);
-    let answer = answer_over(alloc, map, &view, &overlay, request);
-    assert_answer(rt, alloc, &answer, wanted)?;
-    for workers in [1, 3, 64] {
-        let pool = Pool {
-            rt,
-            alloc,
-            workers,
-            gate: &Open,
-        };
-        let answer = answer_over_chunked(&pool, map, &view, &overlay, request);
-        assert_answer(rt, alloc, &answer, wanted)?;
-    }
+    let wanted = limited(wanted);
+    let estimates = estimates_of(alloc, &[])?;
+    let asked = Asked::anyhow();
+    let answer = found_over(rt, alloc, map, known, parts, &estimates, request, &asked)?;
+    assert_answer(rt, alloc, &route_of(rt, answer, true), wanted)?;
     // Each route is within the limit, so that no search by labels is made.
-    let (asked, wanted) = (Asked::within(u16::MAX, 0), limited(wanted));
+    let asked = Asked::within(u16::MAX, 0);
     assert_within(rt, alloc, map, known, parts, request, &asked, wanted)
 }
 
 /// That 1,000 msat over an overlay on a map, where all features are known, take this route, or none.
-pub fn assert_paid<Rt: Abort + Threads + Sync>(
-    rt: &Rt,
+pub fn assert_paid(
+    rt: &impl Abort,
     alloc: Global,
     items: &[Item],
     parts: Parts,
