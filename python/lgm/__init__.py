@@ -37,25 +37,18 @@ The library is loaded for the first `Map`. It is the file that LGM_LIBRARY names
 clone, the one in `examples/out`, where `examples/build-c` puts it; else the system's. `lgm.dump` writes a map to a file.
 """
 
+from . import numbered
 from .arrival import payloads
 from .board import Board
 from .estimates import Estimates
-from .faults import (AmountTooLarge, AmountZero, Argument, Banned, Chain, Closed, Conflict, ExpiryTooLarge, Fault, Full,
-                     Funding, Ignored, Known, Malformed, NodeOrder, NoMaximum, NoMemory, NoRoute, NotAnnounced, NotFilter,
-                     NotGossip, Nothing, NotNewer, NotPublished, NotQuery, Open, PayloadsTooLong, Point, Private, Published,
-                     Reason, Refused, Room, SelfPayment, Signature, TooManyEdges, TooManyLimits, Undecided, UnknownChannel,
-                     UnknownEven, UnknownNode, Unrouted, WrongFunding, WrongHops, WrongMessage, WrongRecordOrder,
-                     WrongRecordType, WrongSig)
+from .faults import Fault, NoRoute
 from .map import ANNOUNCEMENT, UPDATE_1, UPDATE_2, Map
+from .numbered import *
 from .packing import ALL_FOUR, NOBODY, NOT_ALL_FOUR, NOT_ASKED, SPENT, WRONG
 from .records import Channel, Direction, Edge, Estimate, Hop, Limit, Node, Preferences, Route, short_channel_id
 
 __all__ = [
-    "ALL_FOUR", "ANNOUNCEMENT", "AmountTooLarge", "AmountZero", "Argument", "Banned", "Board", "Chain", "Channel", "Closed",
-    "Conflict", "Direction", "Edge", "Estimate", "Estimates", "ExpiryTooLarge", "Fault", "Full", "Funding", "Hop",
-    "Ignored", "Known", "Limit", "Malformed", "Map", "NOBODY", "NOT_ALL_FOUR", "NOT_ASKED", "NoMaximum", "NoMemory",
-    "NoRoute", "Node", "NodeOrder", "NotAnnounced", "NotFilter", "NotGossip", "NotNewer", "NotPublished", "NotQuery",
-    "Nothing", "Open", "PayloadsTooLong", "Point", "Preferences", "Private", "Published", "Reason", "Refused", "Room",
-    "Route", "SPENT", "SelfPayment", "Signature", "TooManyEdges", "TooManyLimits", "UPDATE_1", "UPDATE_2", "Undecided",
-    "UnknownChannel", "UnknownEven", "UnknownNode", "Unrouted", "WRONG", "WrongFunding", "WrongHops", "WrongMessage",
-    "WrongRecordOrder", "WrongRecordType", "WrongSig", "payloads", "short_channel_id"]
+    "ALL_FOUR", "ANNOUNCEMENT", "Board", "Channel", "Direction", "Edge", "Estimate", "Estimates", "Fault", "Hop", "Limit", "Map",
+    "NOBODY", "NOT_ALL_FOUR", "NOT_ASKED", "NoRoute", "Node", "Preferences", "Route", "SPENT", "UPDATE_1", "UPDATE_2", "WRONG",
+    "payloads", "short_channel_id"]
+__all__ += numbered.__all__

@@ -33,7 +33,7 @@ class Handle:
     def _set_up(self) -> None:
         """Sets a closed handle, with the lock of its calls."""
         self._lock = threading.Lock()
-        self._handle = library.Buffer(library.SIZE_OF_HANDLE)
+        self._handle = library.Buffer(library.MAP.size)  # as any other handle
         self._at = self._handle.at
         self._is_closed = False
         self._library = library.load()

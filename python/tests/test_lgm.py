@@ -38,7 +38,7 @@ class Stub:
 
     def lgm_attempt_route(self, _, attempt, *arguments):
         """Keeps what the lists of an attempt have, which last as long as the call, and the search."""
-        lists = lgm.library.LISTS.unpack_from(attempt, lgm.library.PAYMENT.size)
+        lists = lgm.library.ATTEMPT.unpack(attempt)[5:11]
         sizes = lgm.library.EDGE.size, lgm.library.LIMIT.size, 33
         found = [ctypes.string_at(place, count * size) for place, count, size in zip(lists[::2], lists[1::2], sizes)]
         assert len(attempt) == 192
@@ -346,7 +346,7 @@ def the_library_is_found_in_order():
     library, named = lgm.library, os.environ.pop("LGM_LIBRARY", None)
     with tempfile.TemporaryDirectory() as folder:
         kept, library.PLACES = library.PLACES, (Path(folder, "first"), Path(folder, "second"))
-        assert library.place() == "liblgm.so.4"
+        assert library.place() == f"liblgm.so.{library.VERSION}"
         for place in reversed(library.PLACES):
             place.touch()
             assert library.place() == str(place)
@@ -358,9 +358,12 @@ def the_library_is_found_in_order():
 
 
 def each_fault_has_a_name():
-    """Each class of a fault is a name of the package, and so is all that it says it exports."""
+    """Each class of a fault is a name of the package, and so is all that it says it exports. Each number has a class or is a
+    reason, with its word, but for those of a first fault and of success."""
     assert {kind.__name__ for kind in lgm.faults.FAULTS.values()} <= {*lgm.__all__}
     assert all(hasattr(lgm, name) for name in lgm.__all__)
+    words = {number: word for number, word in lgm.library.WORDS.items() if number not in (0, 27, *range(51, 62))}
+    assert words == {number: kind.word for number, kind in (*lgm.faults.FAULTS.items(), *((one, one) for one in lgm.Reason))}
 
 
 def main():

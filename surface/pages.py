@@ -1,0 +1,101 @@
+"""Makes the tables of docs that repeat the header, between two lines of a page:
+
+    <!-- calls: made of include/lgm.h by python3 surface/make.py -->
+    <!-- the end of what is made -->
+
+Of a table of numbers only the first column is made, by the words in code in the second, where `..` stands for those between
+two: what is said of them there is by hand. All numbers that calls return have to be in the table whose line says `all`.
+"""
+
+from __future__ import annotations
+
+import re
+from pathlib import Path
+from typing import Callable, Dict, Iterator, List, Set
+
+from surface.model import Call, Header, Listed
+
+TOP = Path(__file__).resolve().parent.parent
+FILES = ("docs/embedding.md", "docs/operating.md", "docs/protocol.md")
+END = "<!-- the end of what is made -->"
+BLOCK = re.compile(rf"(<!-- ([a-z ]+): made of include/lgm\.h by python3 surface/make\.py -->\n)(.*?)({END})", re.DOTALL)
+# A closed handle's number is the first of nearly all calls.
+OF_ALL = "LGM_CLOSED"
+
+
+class NotFound(Exception):
+    """What a page names and the header hasn't, or the other way round."""
+
+
+def in_markdown(text: str) -> str:
+    """A text with the header's names as code."""
+    return re.sub(r"\b(?:lgm|LGM)_\w+", lambda found: f"`{found[0]}`", text)
+
+
+def numbers_of(call: Call) -> str:
+    """The numbers that a call returns beside those of all."""
+    entries = [entry.numbers for entry in call.returns if entry.numbers != OF_ALL]
+    return in_markdown(", ".join(entries)) or "none"
+
+
+def calls(header: Header, _: str) -> str:
+    """The table of calls: what they cost, and what they return."""
+    rows = ["| call | cost, with n channels | numbers, besides `LGM_OK` and `LGM_CLOSED` |", "|---|---|---|"]
+    for topic in header.topics:
+        names = ", ".join(f"`{call.name}`" for call in topic)
+        rows.append(f"| {names} | {in_markdown(topic[-1].cost.removesuffix('.') or 'constant')} | {numbers_of(topic[-1])} |")
+    return "".join(f"{row}\n" for row in rows)
+
+
+def values_in(cell: str, header: Header) -> List[int]:
+    """The numbers whose words a cell has as code."""
+    by_word = {number.word: number.value for number in header.returned()}
+    values: List[int] = []
+    for between, word in re.findall(r"([^`]*)`([^`]*)`", cell):
+        if word not in by_word:
+            raise NotFound(f"no number has the word {word}")
+        if ".." in between:
+            values += [value for value in by_word.values() if values[-1] < value < by_word[word]]
+        values.append(by_word[word])
+    return values
+
+
+def ranges(values: List[int], known: List[int]) -> str:
+    """Numbers as a reader has them: `1, 3`, or `41 to 48` of more than two that follow one another."""
+    if len(values) > 2 and values == [value for value in known if values[0] <= value <= values[-1]]:
+        return f"{values[0]} to {values[-1]}"
+    return ", ".join(map(str, values))
+
+
+def numbers(header: Header, table: str, must_have_all: bool = False) -> str:
+    """A table of numbers, by the words in its second column."""
+    known = [number.value for number in header.returned()]
+    rows, seen = [], set()
+    for row in table.splitlines():
+        cells = row.split(" | ")
+        if values := values_in(cells[1], header) if len(cells) > 1 else []:
+            cells[0] = f"| {ranges(values, known)}"
+            seen.update(values)
+        rows.append(" | ".join(cells))
+    missing = [number.word for number in header.returned() if number.name and number.value not in seen]
+    if must_have_all and missing:
+        raise NotFound(f"a table of all numbers has no row of {', '.join(missing)}")
+    return "".join(f"{row}\n" for row in rows)
+
+
+def all_numbers(header: Header, table: str) -> str:
+    """A table of all numbers."""
+    return numbers(header, table, must_have_all=True)
+
+
+TABLES: Dict[str, Callable[[Header, str], str]] = {"calls": calls, "numbers": numbers, "all numbers": all_numbers}
+
+
+def page(header: Header, text: str) -> str:
+    """A page, with its tables made."""
+    return BLOCK.sub(lambda found: found[1] + TABLES[found[2]](header, found[3]) + found[4], text)
+
+
+def made(header: Header) -> Dict[str, str]:
+    """The pages, by their places."""
+    return {file: page(header, (TOP / file).read_text()) for file in FILES}
