@@ -30,11 +30,15 @@
  * transaction in the next 24, the output in the last 16.
  *
  * A call's comment ends with the numbers that it returns beside LGM_OK, of which the first that holds is returned. What it
- * costs is said with n channels in the map; where nothing is said, it is constant. The declarations for Python and Rust, the
- * manual pages and tables of docs are made of this header by surface/make.py, whose surface/header.py says how it is read.
+ * costs is said with n channels in the map; where nothing is said, it is constant.
  */
 #ifndef LGM_H
 #define LGM_H
+
+/*
+ * Of this header surface/make.py makes the declarations for Python and Rust, the manual pages and tables of docs.
+ * surface/header.py says how it is read.
+ */
 
 #include <stdbool.h>
 #include <stddef.h>
@@ -159,7 +163,7 @@ uint32_t lgm_version(void);
  */
 void lgm_word(uint32_t number, uint8_t word[LGM_WORD_LEN]);
 
-/* The same word as a string of the program, for printf and the like: one for each number, which lasts. */
+/* The word of a number as a string of the program, for printf and the like: one for each number, which lasts. */
 static inline const char *lgm_text(uint32_t number) {
     switch (number) {
     case LGM_OK: return "accepted";
@@ -493,22 +497,22 @@ uint32_t lgm_estimates_at(lgm_estimates *estimates, size_t place, uint64_t *scid
  * invoice (BOLT 11, field `r`). Its nodes needn't be in the map, and it has no capacity.
  */
 typedef struct {
-    uint64_t scid; /* as the node that the edge leaves resolves it */
-    uint64_t htlc_minimum_msat;
-    uint64_t htlc_maximum_msat; /* 1 or more: of a channel of the payer's own, what it can send; of a hint, UINT64_MAX */
-    /* The payer's own channel charges nothing and adds no delay, so of one these don't matter. */
-    uint32_t fee_base_msat;
-    uint32_t fee_proportional_millionths;
-    uint16_t cltv_expiry_delta;
-    uint8_t from[33]; /* the node that it leaves */
-    uint8_t to[33];   /* the node that it leads to */
+    uint64_t scid;              /* as the node that the edge leaves resolves it */
+    uint64_t htlc_minimum_msat; /* the least amount of a payment over it */
+    /* the most that it carries, 1 or more: of a channel of the payer's own, what it can send; of a hint, UINT64_MAX */
+    uint64_t htlc_maximum_msat;
+    uint32_t fee_base_msat;               /* the payer's own channel charges nothing and adds no delay, whatever it has here */
+    uint32_t fee_proportional_millionths; /* of what is forwarded */
+    uint16_t cltv_expiry_delta;           /* in blocks */
+    uint8_t from[33];                     /* the node that it leaves */
+    uint8_t to[33];                       /* the node that it leads to */
 } lgm_edge;
 
-/* What the edge with an id out of a node carries at most, one of the map or of the extra ones: 0 excludes it. */
+/* What the edge with an id out of a node carries at most, one of the map or of the extra ones. */
 typedef struct {
     uint64_t scid;
-    uint64_t most_msat;
-    uint8_t from[33]; /* the node that the edge leaves: the other direction of the channel has a limit of its own */
+    uint64_t most_msat; /* 0 excludes the edge */
+    uint8_t from[33];   /* the node that the edge leaves: the other direction of the channel has a limit of its own */
 } lgm_limit;
 
 typedef struct {

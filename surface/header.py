@@ -28,8 +28,7 @@ DECLARATION = re.compile(rf"""
     | ^(?P<skipped>\#[^\n]*$ | extern[ ]"C"[ ]\{{$ | \}}$)
     | enum[ ]\{{(?P<numbers>.*?)^\}};
     | typedef[ ]struct[ ]\{{(?P<members>.*?)^\}}[ ](?P<struct>\w+);
-    | static[ ]inline[ ][^;{{]*\blgm_text\(uint32_t[ ]number\)[ ]\{{(?P<words>.*?)^\}}
-    | (?P<result>\w+)[ ](?P<call>lgm_\w+)\((?P<parameters>[^()]*)\);
+    | (?:static[ ]inline[ ])?(?P<result>[\w ]+?[ ]\*?)(?P<call>lgm_\w+)\((?P<parameters>[^()]*)\)(?:;|[ ]\{{(?P<words>.*?)^\}})
     """, re.DOTALL | re.MULTILINE | re.VERBOSE)
 ENUMERATOR = re.compile(rf"(?P<name>\w+) = (?P<value>\d+),?(?: *(?P<trailing>{COMMENT})$)?|(?P<comment>{COMMENT})",
                         re.DOTALL | re.MULTILINE)
@@ -76,10 +75,10 @@ def pieces(pattern: re.Pattern[str], text: str, before: int = 1) -> Iterator[Tup
 
 
 def field_of(text: str, comment: Comment, constants: Dict[str, int]) -> Field:
-    """A member or a parameter."""
+    """A member or a parameter, or the result of a call with its name."""
     found = re.fullmatch(r"(const )?(\w+) (\*?)(\w+)(?:\[(\w+)\])?", " ".join(text.split()))
     if not found:
-        raise NotUnderstood(f"no declaration: {text}")
+        raise NotUnderstood(f"no declaration: {text.strip()}")
     length = None if found[5] is None else constants[found[5]] if found[5] in constants else int(found[5])
     return Field(found[4], Type(found[2], bool(found[1]), bool(found[3]), length), comment)
 
@@ -127,12 +126,15 @@ def call_of(found: Match[str], comment: Comment, constants: Dict[str, int]) -> C
     costs = [text for text in said if text.startswith("Cost: ")]
     said = [text for text in said if text not in costs]
     cost = " ".join(costs).removeprefix("Cost: ")
-    return Call(found["call"], Type(found["result"]), parameters, Comment(tuple(said)), cost, returns)
+    result = field_of(found["result"] + found["call"], NO_COMMENT, constants).type
+    return Call(found["call"], result, parameters, Comment(tuple(said)), cost, returns)
 
 
 def words_of(text: str, values: Dict[str, int]) -> Dict[int, str]:
     """The words of numbers, as `lgm_text` has them."""
     found = re.findall(r'case (\w+): return "(.*)";', text)
+    if unknown := [name for name, _ in found if name not in values and not name.isdigit()]:
+        raise NotUnderstood(f"lgm_text has {', '.join(unknown)}, and no enum does")
     return {values[name] if name in values else int(name): word for name, word in found}
 
 
@@ -145,13 +147,14 @@ class Reader:
         self.numbers: List[Number] = []
         self.structs: List[Struct] = []
         self.topics: List[List[Call]] = []
+        self.inline: List[Call] = []
         self.words = ""
 
     def read(self, text: str) -> None:
         """Reads a text. What follows something else without an empty line has the same comment."""
         before = ""
         for found, is_near in pieces(DECLARATION, text):
-            kind = next(name for name in ("comment", "skipped", "constant", "numbers", "struct", "words", "call") if found[name])
+            kind = next(name for name in ("comment", "skipped", "constant", "numbers", "struct", "call") if found[name])
             if kind == "comment":
                 self.comment = comment_of(found["comment"])
                 self.opening = self.opening or self.comment
@@ -170,11 +173,12 @@ class Reader:
             self.numbers += numbers_of(found["numbers"], line)
         elif kind == "struct":
             self.structs.append(struct_of(found["struct"], found["members"], self.comment, values, line))
-        elif kind == "words":
-            self.words = found["words"]
         elif kind == "call":
             call = call_of(found, self.comment, values)
-            if is_same_topic:
+            if found["words"]:
+                self.words = found["words"]
+                self.inline.append(call)
+            elif is_same_topic:
                 self.topics[-1].append(call)
             else:
                 self.topics.append([call])
@@ -186,7 +190,8 @@ class Reader:
                         for one in self.numbers)
         if without := [one.name or str(one.value) for one in numbers if one.group.name and not one.word]:
             raise NotUnderstood(f"lgm_text has no word of {', '.join(without)}")
-        return Header(self.opening, tuple(self.constants), numbers, tuple(self.structs), tuple(map(tuple, self.topics)))
+        return Header(self.opening, tuple(self.constants), numbers, tuple(self.structs), tuple(map(tuple, self.topics)),
+                      tuple(self.inline))
 
 
 def read(text: str) -> Header:

@@ -123,7 +123,7 @@ def overview(header: Header) -> str:
     lines = [*head("lgm"), ".SH NAME", "lgm \\- verified map of Lightning gossip, with routes over it", *LIBRARY,
              ".SH SYNOPSIS", ".B #include <lgm.h>", ".SH DESCRIPTION", *paragraphs(Comment(header.opening.paragraphs[1:])),
              ".SH CALLS"]
-    for topic in header.topics:
+    for topic in header.described:
         lines += [".TP", ", ".join(f"\\fB{call.name}\\fR(3)" for call in topic), in_roff(sentence(topic[0].comment.summary))]
     lines.append(".SH NUMBERS")
     for group in header.groups:
@@ -137,5 +137,5 @@ def overview(header: Header) -> str:
 
 def made(header: Header) -> Dict[str, str]:
     """The pages, by their places."""
-    pages = {f"{FOLDER}/{topic[0].name}.3": page(topic, header) for topic in header.topics}
+    pages = {f"{FOLDER}/{topic[0].name}.3": page(topic, header) for topic in header.described}
     return {**pages, f"{FOLDER}/lgm.3": overview(header)}

@@ -39,7 +39,7 @@ class Comment:
     def summary(self) -> str:
         """The first sentence of the first paragraph, as far as its first semicolon or colon, without what is in parentheses."""
         first = re.sub(r" \([^()]*\)", "", self.paragraphs[0]) if self.paragraphs else ""
-        return re.split(r"[.:;] ", f"{first} ")[0]
+        return re.split(r"[.:;] ", f"{first} ")[0].strip()
 
 
 @dataclass(frozen=True)
@@ -121,23 +121,29 @@ class Call:
     @property
     def prototype(self) -> str:
         """Its declaration on one line."""
-        return f"{self.result} {self.name}({', '.join(map(declared, self.parameters)) or 'void'});"
+        return f"{declared(Field(self.name, self.result))}({', '.join(map(declared, self.parameters)) or 'void'});"
 
 
 @dataclass(frozen=True)
 class Header:
-    """All of it. Calls with one comment stand together in `topics`, in order."""
+    """All of it. Calls with one comment stand together in `topics`, in order, without those that the header itself has."""
 
     opening: Comment
     constants: Tuple[Constant, ...]
     numbers: Tuple[Number, ...]
     structs: Tuple[Struct, ...]
     topics: Tuple[Tuple[Call, ...], ...]
+    inline: Tuple[Call, ...] = ()
 
     @property
     def calls(self) -> List[Call]:
         """All calls."""
         return [call for topic in self.topics for call in topic]
+
+    @property
+    def described(self) -> List[Tuple[Call, ...]]:
+        """The topics, and the calls that the header itself has."""
+        return [*self.topics, *((call,) for call in self.inline)]
 
     @property
     def version(self) -> int:

@@ -41,7 +41,7 @@ def numbers_of(call: Call) -> str:
 def calls(header: Header, _: str) -> str:
     """The table of calls: what they cost, and what they return."""
     rows = ["| call | cost, with n channels | numbers, besides `LGM_OK` and `LGM_CLOSED` |", "|---|---|---|"]
-    for topic in header.topics:
+    for topic in header.described:
         names = ", ".join(f"`{call.name}`" for call in topic)
         rows.append(f"| {names} | {in_markdown(topic[-1].cost.removesuffix('.') or 'constant')} | {numbers_of(topic[-1])} |")
     return "".join(f"{row}\n" for row in rows)

@@ -29,10 +29,11 @@ from pathlib import Path
 sys.dont_write_bytecode = True  # the repository gets no made files
 
 TOP = Path(__file__).resolve().parent.parent
-sys.path.insert(1, str(TOP / "examples"))
+sys.path[1:1] = [str(TOP), str(TOP / "examples")]
 
 from blocks import block
 from clean_root import bare, layered, succeeds, with_own_mounts
+from surface import header
 
 SKIPPED = 77
 VERSION = (TOP / "VERSION").read_text().strip()
@@ -79,7 +80,7 @@ def made_packages(folder):
 
 
 def versions_agree():
-    """The program, the changelog and the crate have the version of the packages; the wrappers have the library's."""
+    """The program, the changelog and the crate have the version of the packages."""
     def found(pattern, file):
         return re.search(pattern, (TOP / file).read_text(), flags=re.MULTILINE)[1]
 
@@ -90,10 +91,6 @@ def versions_agree():
     report("the version of the archive in the README", found(r"lgm-(.*)-x86_64-linux\.tar\.gz", "README.md") == VERSION)
     report("the version in docs/operating.md", found(r"`lgm --version`: `lgm (.*)`, the file", "docs/operating.md") == VERSION)
     report("the version of the crate", found(r'^version = "(.*)"', "examples/rust/Cargo.toml") == f"{VERSION}.0")
-    library = found(r"^#define LGM_VERSION (\d+)", "include/lgm.h")
-    for pattern, file in ((r"^VERSION = (\d+)", "python/lgm/library.py"), (r'"lgm = (\d+)"', "examples/rust/build.rs"),
-                          (r"LIBRARY_VERSION: u32 = (\d+)", "examples/rust/src/lib.rs")):
-        report(f"the version of the library in {file}", found(pattern, file) == library)
 
 
 def record_is_right(wheel):
@@ -202,7 +199,7 @@ def installed(root, package, with_apt):
 
 
 def manuals_are_right(root):
-    """`man` shows the pages without a warning, that of the library by each call's name."""
+    """`man` shows the pages without a warning, and by the name of each call of the library its declaration."""
     if not root.has("man"):
         leave_out("the manual pages", "there is no man")
         return
@@ -210,13 +207,14 @@ def manuals_are_right(root):
     options = re.findall(r"^\| `(--\w+) HEX`|^\| `(--\w+) N`", (TOP / "docs/script.md").read_text(), flags=re.MULTILINE)
     shown = all("".join(option) in ran.stdout.decode() for option in options)
     report("lgm(1)", ran.returncode == 0 and not ran.stderr and shown and len(options) == 3)
-    header = (TOP / "include/lgm.h").read_text()
-    calls = set(re.findall(r"^\w+ (lgm_\w+)\(", header, flags=re.MULTILINE))
-    inline = set(re.findall(r"^static inline [\w *]+\b(lgm_\w+)\(", header, flags=re.MULTILINE))
-    ran = root.run("man --warnings lgm_route")
-    shown = set(re.findall(r"\b(lgm_\w+)\(", ran.stdout.decode()))
-    report("lgm(3)", ran.returncode == 0 and not ran.stderr and shown == calls | inline)
-    report("a manual page of each call", all((root.folder / f"usr/share/man/man3/{name}.3.gz").exists() for name in calls))
+    calls = [call for topic in header.read_file().described for call in topic]
+    ran = root.run("man --warnings 3 lgm")
+    shown = all(f"{call.name}(3)" in ran.stdout.decode() for call in calls)
+    report("lgm(3)", ran.returncode == 0 and not ran.stderr and shown)
+    for call in calls:
+        ran = root.run(f"man --warnings {call.name}")
+        shown = "".join(call.prototype.split()) in "".join(ran.stdout.decode().split())
+        report(f"{call.name}(3)", ran.returncode == 0 and not ran.stderr and shown)
 
 
 def completion_is_right(root):

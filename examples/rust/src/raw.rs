@@ -164,12 +164,15 @@ impl Estimate {
 pub struct Edge {
     /// As the node that the edge leaves resolves it.
     pub scid: u64,
+    /// The least amount of a payment over it.
     pub htlc_minimum_msat: u64,
-    /// 1 or more: of a channel of the payer's own, what it can send; of a hint, UINT64_MAX.
+    /// The most that it carries, 1 or more: of a channel of the payer's own, what it can send; of a hint, UINT64_MAX.
     pub htlc_maximum_msat: u64,
-    /// The payer's own channel charges nothing and adds no delay, so of one these don't matter.
+    /// The payer's own channel charges nothing and adds no delay, whatever it has here.
     pub fee_base_msat: u32,
+    /// Of what is forwarded.
     pub fee_proportional_millionths: u32,
+    /// In blocks.
     pub cltv_expiry_delta: u16,
     /// The node that it leaves.
     pub from: [u8; 33],
@@ -191,11 +194,12 @@ impl Edge {
     };
 }
 
-/// What the edge with an id out of a node carries at most, one of the map or of the extra ones: 0 excludes it.
+/// What the edge with an id out of a node carries at most, one of the map or of the extra ones.
 #[repr(C)]
 #[derive(Clone, Copy, Debug, PartialEq, Eq)]
 pub struct Limit {
     pub scid: u64,
+    /// 0 excludes the edge.
     pub most_msat: u64,
     /// The node that the edge leaves: the other direction of the channel has a limit of its own.
     pub from: [u8; 33],
