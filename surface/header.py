@@ -7,7 +7,7 @@ It is plain C, and in some places its form says more:
   stands for a number that has only a word;
 - `lgm_text` has the words of all numbers, a `case` each;
 - of a call's comment the paragraph that begins with `Cost: ` says what it costs, and the last one, if it begins with a number
-  or the name of one, lists the numbers that it returns, each with the circumstances behind a comma: `LGM_CLOSED; 1 to 3, of ..`.
+  or the name of one, lists the numbers that it returns, each with when it comes behind a comma: `LGM_CLOSED; 1 to 3, of ..`.
 
 Whatever else the header has is refused, so that nothing is left out of what is made.
 """

@@ -8,7 +8,7 @@ from __future__ import annotations
 import re
 from typing import Dict, Iterable, Iterator, List, Sequence
 
-from surface.model import Call, Comment, Header, Listed, Number, Struct, Type, declared
+from surface.model import Call, Comment, Header, Number, Struct, Type, declared
 from surface.names import sentence
 from surface.texts import MADE
 

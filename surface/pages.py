@@ -11,9 +11,9 @@ from __future__ import annotations
 
 import re
 from pathlib import Path
-from typing import Callable, Dict, Iterator, List, Set
+from typing import Callable, Dict, List, Set
 
-from surface.model import Call, Header, Listed
+from surface.model import Call, Header
 
 TOP = Path(__file__).resolve().parent.parent
 FILES = ("docs/embedding.md", "docs/operating.md", "docs/protocol.md")
@@ -70,7 +70,8 @@ def ranges(values: List[int], known: List[int]) -> str:
 def numbers(header: Header, table: str, must_have_all: bool = False) -> str:
     """A table of numbers, by the words in its second column."""
     known = [number.value for number in header.returned()]
-    rows, seen = [], set()
+    rows: List[str] = []
+    seen: Set[int] = set()
     for row in table.splitlines():
         cells = row.split(" | ")
         if values := values_in(cells[1], header) if len(cells) > 1 else []:

@@ -13,7 +13,8 @@ FILE = "python/lgm/declarations.py"
 CODES = {"uint64_t": "Q", "size_t": "N", "uint32_t": "I", "uint16_t": "H", "uint8_t": "B", "bool": "?"}
 POINTER = "P"
 ALIGNMENTS = "QNPIHB?"
-VALUES = {"void": "None", "bool": "BOOL", "uint8_t": "U8", "uint16_t": "U16", "uint32_t": "U32", "uint64_t": "U64", "size_t": "SIZE"}
+VALUES = {"void": "None", "bool": "BOOL", "uint8_t": "U8", "uint16_t": "U16", "uint32_t": "U32", "uint64_t": "U64",
+          "size_t": "SIZE"}
 
 HEAD = f'''# {MADE}
 """The declarations of include/lgm.h, for ctypes and `struct`."""
@@ -94,7 +95,7 @@ def declared(call: Call) -> str:
 def made(header: Header) -> Dict[str, str]:
     """The file, by its place."""
     words = [f'    {number.value}: "{number.word}",' for number in header.returned()]
-    lines = [HEAD, *constants(header), "", "# The structs, in this machine's layout. A struct in a struct has its members there.",
+    lines = [HEAD, *constants(header), "", "# The structs, in this machine's layout. One in another has its members there.",
              *structs(header), TYPES, *map(declared, header.calls), "}", "",
              "# The word of each number that a call returns.", "WORDS: Dict[int, str] = {", *words, "}"]
     return {FILE: "\n".join(lines) + "\n"}

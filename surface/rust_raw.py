@@ -85,8 +85,8 @@ def struct_in_rust(struct: Struct, structs: Dict[str, Struct]) -> List[str]:
         lines += [*docs(member.comment, "    "),
                   f"    pub {rust_name(member.name)}: {type_of(member.type, structs, False)},"]
     values = [f"        {rust_name(member.name)}: {zeros(member.type, structs)}," for member in struct.members]
-    return [*lines, "}", "", f"impl {name} {{", "    /// All zeros.", f"    pub(crate) const ZEROS: {name} = {name} {{", *values,
-            "    };", "}"]
+    return [*lines, "}", "", f"impl {name} {{", "    /// All zeros.", f"    pub(crate) const ZEROS: {name} = {name} {{",
+            *values, "    };", "}"]
 
 
 def parameter(field: Field, structs: Dict[str, Struct]) -> str:

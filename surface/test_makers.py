@@ -74,10 +74,12 @@ def python_has_faults():
     assert '\n\nclass Old(Refused, number=1, word="old"):\n    """It isn\'t new."""\n' in made
     assert 'class Conflict(Refused, number=2, word="conflict"):' in made and "Done" not in made
     assert python_faults.names(HEADER) == ["Refused", "Old", "Conflict", "Odd"]
-    assert python_faults.names(FAULT) == ["Refused", "Conflict", "TooManyEdges"] and "no-route" not in text_of(python_faults, FAULT)
+    assert python_faults.names(FAULT) == ["Refused", "Conflict", "TooManyEdges"]
+    assert "no-route" not in text_of(python_faults, FAULT)
     reasons = read(SMALL.replace("/* Refused: ", "/* Reason: "))
     made = text_of(python_faults, reasons)
-    assert python_faults.names(reasons) == ["Reason"] and "class Reason(IntEnum):" in made and "    OLD = 1  # it isn't new\n" in made
+    assert python_faults.names(reasons) == ["Reason"] and "class Reason(IntEnum):" in made
+    assert "    OLD = 1  # it isn't new\n" in made
 
 
 def rust_has_declarations():
@@ -85,7 +87,8 @@ def rust_has_declarations():
     made = text_of(rust_raw)
     assert "Things" not in made and "    pub fn lgm_see() -> u32;\n" in made
     assert ("pub fn lgm_look(things: *mut Handle, seed: *const [u8; 16], line: *const Line, most: usize) -> u32;\n" in made)
-    assert "    /// Looks.\n    pub fn lgm_look(" in made and "    pub fn lgm_free(things: *mut Handle, ones: *mut [u8; 20]);\n" in made
+    assert "    /// Looks.\n    pub fn lgm_look(" in made
+    assert "    pub fn lgm_free(things: *mut Handle, ones: *mut [u8; 20]);\n" in made
     assert "    /// The first one.\n    pub first: Point,\n" in made and "    pub others: *const Point,\n" in made
     assert "        first: Point::ZEROS,\n        others: ptr::null(),\n        others_len: 0,\n" in made
 
@@ -108,7 +111,7 @@ def pages_of_the_manual_show_calls():
     assert {*made} == {f"packaging/man/{name}.3" for name in ("lgm", "lgm_look", "lgm_free", "lgm_text")}
     look = made["packaging/man/lgm_look.3"]
     assert "\nlgm_look, lgm_see \\- looks\n" in look and "\nLooks (BOLT 7; page): all of them. And more.\n" in look
-    assert '.B "uint32_t\\ lgm_look(lgm_things\\ *things, const\\ uint8_t\\ seed[16], const\\ lgm_line\\ *line, size_t\\ most);"\n' in look
+    assert '.B "uint32_t\\ lgm_look(lgm_things\\ *things, const\\ uint8_t\\ seed[16], const\\ lgm_line\\ *line, ' in look
     assert "\ntypedef struct {\n    /* the first one */\n    lgm_point first;\n" in look and "} lgm_point;" in look
     assert "} lgm_things;" not in look and ".SH COST\nLog n.\n" in look
     assert '.TP\n\\fBLGM_ODD\\fR (3, \\(dqodd: 3\\(dq)\nIt is odd. Of a line.\n' in look
@@ -136,8 +139,8 @@ def tables_of_pages_are_made():
 
 def main():
     """Runs each test."""
-    tests = (names_go_by_rules, python_has_declarations, structs_in_structs_are_aligned, python_has_faults, rust_has_declarations,
-             rust_has_numbers, pages_of_the_manual_show_calls, tables_of_pages_are_made)
+    tests = (names_go_by_rules, python_has_declarations, structs_in_structs_are_aligned, python_has_faults,
+             rust_has_declarations, rust_has_numbers, pages_of_the_manual_show_calls, tables_of_pages_are_made)
     for test in tests:
         test()
     print(f"{len(tests)} passed")

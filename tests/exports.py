@@ -148,7 +148,8 @@ def places_in_python(header):
         pieces = pieces_of(one, header.struct_of)
         yield f"sizeof({one.name})", struct.calcsize(format_of(one, header.struct_of))
         for count, (member, piece) in enumerate(zip(one.members, pieces), 1):
-            yield f"offsetof({one.name}, {member.name})", struct.calcsize("@" + "".join(pieces[:count])) - struct.calcsize(f"@{piece}")
+            end = struct.calcsize("@" + "".join(pieces[:count]))
+            yield f"offsetof({one.name}, {member.name})", end - struct.calcsize(f"@{piece}")
 
 
 def layout_differs(sources, header):

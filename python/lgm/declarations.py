@@ -27,7 +27,7 @@ FUNDING_UNSPENT = 1  # it is unspent, pays to the 2-of-2 of the bitcoin keys, an
 FUNDING_SPENT = 2
 FUNDING_WRONG = 3  # it doesn't exist, or pays to something else
 
-# The structs, in this machine's layout. A struct in a struct has its members there.
+# The structs, in this machine's layout. One in another has its members there.
 # lgm_map: is_open, at
 MAP = Struct("@?P0P")
 # lgm_payment: amount_msat, expiry, payer, payee, secret
