@@ -138,7 +138,8 @@ def found_channel(handle, scid):
     channel = bytearray(b"\7" * CHANNEL.size)
     number = library.lgm_channel(handle, scid, at(channel))
     capacity_sat, node_1, node_2, *terms = CHANNEL.unpack(channel)
-    return number, Channel(capacity_sat, node_1, node_2, Direction(*terms[:9]), Direction(*terms[9:]))
+    half = len(terms) // 2
+    return number, Channel(capacity_sat, node_1, node_2, Direction(*terms[:half]), Direction(*terms[half:]))
 
 
 def found_node(handle, addresses):
