@@ -5,9 +5,10 @@ from __future__ import annotations
 import sys
 from typing import Any, Callable, Iterator, List, Tuple
 
-from .faults import Nothing, check
+from .faults import check
 from .handle import Handle, alone
 from .library import ESTIMATE, Buffer, Octets, number, octets
+from .numbered import Nothing
 from .records import Estimate
 
 Entry = Tuple[int, bytes, Estimate]

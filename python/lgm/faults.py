@@ -7,7 +7,6 @@ from typing import Optional
 from . import library, numbered
 from .fault import FAULTS, Fault
 from .numbered import *
-from .numbered import Malformed, Reason, Unrouted
 
 __all__ = ["FAULTS", "Fault", "NoRoute", "check", "check_message"]
 __all__ += numbered.__all__

@@ -8,7 +8,7 @@ from types import TracebackType
 from typing import Any, Callable, ClassVar, Optional, Type, TypeVar, cast
 
 from . import library
-from .faults import Closed
+from .numbered import Closed
 
 Method = TypeVar("Method", bound=Callable[..., Any])
 Kind = TypeVar("Kind", bound="Handle")

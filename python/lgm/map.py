@@ -10,9 +10,10 @@ from typing import Any, Callable, ContextManager, Iterable, Iterator, List, Opti
 
 from . import library
 from .estimates import Estimates
-from .faults import Nothing, NoRoute, Reason, Room, check, check_message
+from .faults import NoRoute, check, check_message
 from .handle import Handle, alone
 from .library import Buffer, Octets, number, octets
+from .numbered import Nothing, Reason, Room
 from .packing import (NOBODY, NOT_ASKED, direction, funded, lent, packed_all, packed_edge, packed_limit, search_members,
                       signed)
 from .records import Channel, Edge, Hop, Limit, Node, Preferences, Route
