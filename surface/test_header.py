@@ -153,7 +153,8 @@ def calls_have_costs_and_numbers():
     assert look.cost == see.cost == "log n." and free.cost == "" and free.comment == Comment()
     assert look.returns == see.returns == (Listed("LGM_OLD"), Listed("1 to 3", "of a line"), Listed("LGM_ODD"))
     assert [[one.value for one in header.listed(entry)] for entry in look.returns] == [[1], [1, 3], [3]]
-    assert look.prototype == ("uint32_t lgm_look(lgm_things *things, const uint8_t seed[16], const lgm_line *line, size_t most);")
+    assert look.prototype == (
+        "uint32_t lgm_look(lgm_things *things, const uint8_t seed[16], const lgm_line *line, size_t most);")
     assert see.prototype == "uint32_t lgm_see(void);"
     assert header.inline[0].prototype == "const char *lgm_text(uint32_t number);"
     assert str(free.parameters[1].type) == "uint8_t [20]"

@@ -48,7 +48,7 @@ from .packing import ALL_FOUR, NOBODY, NOT_ALL_FOUR, NOT_ASKED, SPENT, WRONG
 from .records import Channel, Direction, Edge, Estimate, Hop, Limit, Node, Preferences, Route, short_channel_id
 
 __all__ = [
-    "ALL_FOUR", "ANNOUNCEMENT", "Board", "Channel", "Direction", "Edge", "Estimate", "Estimates", "Fault", "Hop", "Limit", "Map",
-    "NOBODY", "NOT_ALL_FOUR", "NOT_ASKED", "NoRoute", "Node", "Preferences", "Route", "SPENT", "UPDATE_1", "UPDATE_2", "WRONG",
-    "payloads", "short_channel_id"]
+    "ALL_FOUR", "ANNOUNCEMENT", "Board", "Channel", "Direction", "Edge", "Estimate", "Estimates", "Fault", "Hop", "Limit",
+    "Map", "NOBODY", "NOT_ALL_FOUR", "NOT_ASKED", "NoRoute", "Node", "Preferences", "Route", "SPENT", "UPDATE_1", "UPDATE_2",
+    "WRONG", "payloads", "short_channel_id"]
 __all__ += numbered.__all__

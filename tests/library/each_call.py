@@ -115,7 +115,7 @@ def word_of(number):
 
 @test
 def words():
-    """Each number has the word that the header's lgm_text has, with zeros behind it, or none; and the version is the header's."""
+    """Each number has the word that the header's lgm_text has, with zeros behind it, or none; the version is the header's."""
     assert WORDS[0] == "accepted" and WORDS[120] == "which: 0, 1 or 2"
     for number in (*range(1_000), 2**32 - 1):
         assert word_of(number) == WORDS.get(number, "").encode().ljust(WORD_LEN, b"\0"), number
