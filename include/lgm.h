@@ -36,8 +36,8 @@
 #define LGM_H
 
 /*
- * Of this header surface/make.py makes the declarations for Python and Rust, the manual pages and tables of docs.
- * surface/header.py says how it is read.
+ * Of this header surface/make.py makes the declarations for Python and Rust and tables of docs, and ./package the manual
+ * pages. surface/header.py says how it is read.
  */
 
 #include <stdbool.h>

@@ -1,6 +1,6 @@
-"""Makes the manual pages in packaging/man: lgm(3), and one for each call, or for those that have one comment.
+"""Makes the manual pages: lgm(3), and one for each call, or for those that have one comment, named by the first of these.
 
-`./package` puts the version and the date into them, and makes links for the other names of a page.
+`./package` installs them, with links for the other names of a page. Nothing of them is kept in the repository.
 """
 
 from __future__ import annotations
@@ -10,10 +10,7 @@ from typing import Dict, Iterable, Iterator, List, Sequence
 
 from surface.model import Call, Comment, Header, Number, Struct, Type, declared
 from surface.names import sentence
-from surface.texts import MADE
 
-FOLDER = "packaging/man"
-PATTERN = f"{FOLDER}/*.3"
 LIBRARY = [".SH LIBRARY", ".nf", ".B cc program.c $(pkg\\-config \\-\\-cflags \\-\\-libs lgm)", ".fi"]
 # What is set in bold: code in the header's own quotes, and its names.
 CODE = re.compile(r"`([^`]+)`|\b((?:lgm|LGM)_\w+)\b")
@@ -44,9 +41,10 @@ def paragraphs(comment: Comment) -> Iterator[str]:
             yield from (".PP", in_roff(paragraph))
 
 
-def head(name: str) -> List[str]:
-    """How a page begins."""
-    return [f'.\\" {MADE}', f'.TH {name.upper()} 3 "@DATE@" "lgm @VERSION@" "Library Functions Manual"']
+def titled(name: str, version: str, date: str, lines: Sequence[str]) -> str:
+    """A page, with its title and what made it."""
+    head = ('.\\" Made of include/lgm.h.', f'.TH {name.upper()} 3 "{date}" "lgm {version}" "Library Functions Manual"')
+    return "\n".join([*head, *lines]) + "\n"
 
 
 def prototypes(calls: Iterable[Call]) -> Iterator[str]:
@@ -105,24 +103,23 @@ def returned(call: Call, header: Header) -> Iterator[str]:
             yield from number_lines(number, entry.when)
 
 
-def page(topic: Sequence[Call], header: Header) -> str:
+def page(topic: Sequence[Call], header: Header) -> List[str]:
     """The page of calls with one comment."""
     first = topic[0]
     summary = first.comment.summary
     names = ", ".join(call.name for call in topic)
-    lines = [*head(first.name), ".SH NAME", f"{names} \\- {escaped(summary[:1].lower() + summary[1:])}", *LIBRARY,
+    lines = [".SH NAME", f"{names} \\- {escaped(summary[:1].lower() + summary[1:])}", *LIBRARY,
              *prototypes(topic), ".SH DESCRIPTION", *paragraphs(first.comment)]
     if structs := structs_of(topic, header):
         lines += [".SH STRUCTS", *(line for struct in structs for line in struct_lines(struct))]
     lines += [*returned(topic[-1], header), ".SH COST", in_roff(sentence(topic[-1].cost or "constant"))]
-    return "\n".join([*lines, ".SH SEE ALSO", ".BR lgm (3)"]) + "\n"
+    return [*lines, ".SH SEE ALSO", ".BR lgm (3)"]
 
 
-def overview(header: Header) -> str:
+def overview(header: Header) -> List[str]:
     """lgm(3): the header's own comment, its calls and its numbers."""
-    lines = [*head("lgm"), ".SH NAME", "lgm \\- verified map of Lightning gossip, with routes over it", *LIBRARY,
-             ".SH SYNOPSIS", ".B #include <lgm.h>", ".SH DESCRIPTION", *paragraphs(Comment(header.opening.paragraphs[1:])),
-             ".SH CALLS"]
+    lines = [".SH NAME", "lgm \\- verified map of Lightning gossip, with routes over it", *LIBRARY, ".SH SYNOPSIS",
+             ".B #include <lgm.h>", ".SH DESCRIPTION", *paragraphs(Comment(header.opening.paragraphs[1:])), ".SH CALLS"]
     for topic in header.described:
         lines += [".TP", ", ".join(f"\\fB{call.name}\\fR(3)" for call in topic), in_roff(sentence(topic[0].comment.summary))]
     lines.append(".SH NUMBERS")
@@ -131,11 +128,11 @@ def overview(header: Header) -> str:
         for number in header.numbers:
             if number.group == group and number.name:
                 lines += number_lines(number)
-    return "\n".join([*lines, ".SH FILES", ".I /usr/include/lgm.h", ".SH SEE ALSO", ".BR lgm (1)", ".PP",
-                      ".I /usr/share/doc/lgm/docs/embedding.md", "is a guide, with a first program in C and in Python."]) + "\n"
+    return [*lines, ".SH FILES", ".I /usr/include/lgm.h", ".SH SEE ALSO", ".BR lgm (1)", ".PP",
+            ".I /usr/share/doc/lgm/docs/embedding.md", "is a guide, with a first program in C and in Python."]
 
 
-def made(header: Header) -> Dict[str, str]:
-    """The pages, by their places."""
-    pages = {f"{FOLDER}/{topic[0].name}.3": page(topic, header) for topic in header.described}
-    return {**pages, f"{FOLDER}/lgm.3": overview(header)}
+def made(header: Header, version: str, date: str) -> Dict[str, str]:
+    """The pages of a version of the packages, by their names."""
+    pages = {"lgm": overview(header), **{topic[0].name: page(topic, header) for topic in header.described}}
+    return {name: titled(name, version, date, lines) for name, lines in pages.items()}

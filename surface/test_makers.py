@@ -107,16 +107,17 @@ def rust_has_numbers():
 
 def pages_of_the_manual_show_calls():
     """A page for calls with one comment, named by the first: declarations, structs, numbers, cost."""
-    made = manual.made(HEADER)
-    assert {*made} == {f"packaging/man/{name}.3" for name in ("lgm", "lgm_look", "lgm_free", "lgm_text")}
-    look = made["packaging/man/lgm_look.3"]
+    made = manual.made(HEADER, "1.2", "2026-01-31")
+    assert [*made] == ["lgm", "lgm_look", "lgm_free", "lgm_text"]
+    look = made["lgm_look"]
+    assert '\n.TH LGM_LOOK 3 "2026-01-31" "lgm 1.2" "Library Functions Manual"\n.SH NAME\n' in look
     assert "\nlgm_look, lgm_see \\- looks\n" in look and "\nLooks (BOLT 7; page): all of them. And more.\n" in look
     assert '.B "uint32_t\\ lgm_look(lgm_things\\ *things, const\\ uint8_t\\ seed[16], const\\ lgm_line\\ *line, ' in look
     assert "\ntypedef struct {\n    /* the first one */\n    lgm_point first;\n" in look and "} lgm_point;" in look
     assert "} lgm_things;" not in look and ".SH COST\nLog n.\n" in look
     assert '.TP\n\\fBLGM_ODD\\fR (3, \\(dqodd: 3\\(dq)\nIt is odd. Of a line.\n' in look
-    assert ".SH RETURN VALUE\nNothing.\n" in made["packaging/man/lgm_free.3"]
-    assert "\n.IP \\(bu 2\nOne condition, in two lines.\n" in made["packaging/man/lgm.3"]
+    assert ".SH RETURN VALUE\nNothing.\n" in made["lgm_free"]
+    assert "\n.IP \\(bu 2\nOne condition, in two lines.\n" in made["lgm"]
     assert manual.in_roff("'a `b-c` d-e lgm_f\\") == "\\&'a \\fBb\\-c\\fR d-e \\fBlgm_f\\fR\\e"
 
 
