@@ -5,6 +5,6 @@
 - `names`: the names of all that in Python and in Rust;
 - `python_declarations`, `python_faults`: python/lgm/declarations.py and numbered.py;
 - `rust_raw`, `rust_numbers`: raw.rs, numbers.rs and version.rs of the crate;
-- `pages`: tables in docs;
+- `pages`: tables in docs, and by `clauses` which calls of the library leave maps as they are;
 - `manual`: the manual pages, which `./package` makes by it.
 """

@@ -1,10 +1,11 @@
-"""Makes the tables of docs that repeat the header, between two lines of a page:
+"""Makes what docs repeat of the header, between two lines of a page, or inside of one:
 
     <!-- calls: made of include/lgm.h by python3 surface/make.py -->
     <!-- the end of what is made -->
 
 Of a table of numbers only the first column is made, by the words in code in the second, where `..` stands for those between
-two: what is said of them there is by hand. All numbers that calls return have to be in the table whose line says `all`.
+two: what is said of them there is by hand. All numbers that calls return have to be in the table whose line says `all`. The
+calls that leave maps as they are stand there by the sources of the library, with the clauses that say so.
 """
 
 from __future__ import annotations
@@ -13,12 +14,14 @@ import re
 from pathlib import Path
 from typing import Callable, Dict, List, Set
 
+from surface import clauses
 from surface.model import Call, Header
 
 TOP = Path(__file__).resolve().parent.parent
-FILES = ("docs/embedding.md", "docs/operating.md", "docs/protocol.md")
+FILES = ("docs/embedding.md", "docs/operating.md", "docs/promises.md", "docs/protocol.md")
 END = "<!-- the end of what is made -->"
-BLOCK = re.compile(rf"(<!-- ([a-z ]+): made of include/lgm\.h by python3 surface/make\.py -->\n)(.*?)({END})", re.DOTALL)
+BEGIN = r"<!-- ([a-z ]+): made of (?:include/lgm\.h|crates/lgm_c/src) by python3 surface/make\.py -->\n?"
+BLOCK = re.compile(rf"({BEGIN})(.*?)({END})", re.DOTALL)
 # A closed handle's number is the first of nearly all calls.
 OF_ALL = "LGM_CLOSED"
 
@@ -89,7 +92,22 @@ def all_numbers(header: Header, table: str) -> str:
     return numbers(header, table, must_have_all=True)
 
 
-TABLES: Dict[str, Callable[[Header, str], str]] = {"calls": calls, "numbers": numbers, "all numbers": all_numbers}
+def cited(header: Header, clauses_of: Dict[str, List[str]]) -> str:
+    """Calls with their clauses, in the order of the header; calls with the same ones together."""
+    calls_with: Dict[str, List[str]] = {}
+    for call in header.calls:
+        if found := clauses_of.get(call.name):
+            calls_with.setdefault(", ".join(f"`{clause}`" for clause in found), []).append(f"`{call.name}`")
+    return "; ".join(f"{', '.join(names)}: {found}" for found, names in calls_with.items())
+
+
+def keeping_calls(header: Header, _: str) -> str:
+    """The calls that leave maps as they are."""
+    return cited(header, clauses.keeping(clauses.sources()))
+
+
+TABLES: Dict[str, Callable[[Header, str], str]] = {
+    "calls": calls, "numbers": numbers, "all numbers": all_numbers, "calls that leave maps as they are": keeping_calls}
 
 
 def page(header: Header, text: str) -> str:

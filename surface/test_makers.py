@@ -12,7 +12,7 @@ from pathlib import Path
 sys.dont_write_bytecode = True  # the repository gets no made files
 sys.path[0] = str(Path(__file__).resolve().parent.parent)
 
-from surface import manual, names, pages, python_declarations, python_faults, rust_numbers, rust_raw  # noqa: E402
+from surface import clauses, manual, names, pages, python_declarations, python_faults, rust_numbers, rust_raw  # noqa: E402
 from surface.header import read  # noqa: E402
 from surface.test_header import SMALL  # noqa: E402
 
@@ -138,10 +138,52 @@ def tables_of_pages_are_made():
             assert str(why) in ("a table of all numbers has no row of odd: 3", "no number has the word new")
 
 
+SOURCE = """
+#[unsafe(no_mangle)]
+pub extern "C" fn lgm_look(alloc: Global, before: &mut LgmMap, things: &mut LgmThings, after: &mut LgmMap, line: &[u8]) -> u32
+    ensures same { after.new.handle.value ≡ after.old.handle.value }
+    ensures kept { things.new.handle.value ≡ things.old.handle.value }
+    ensures same_before { before.new.handle.value ≡ before.old.handle.value }
+{
+}
+
+#[unsafe(no_mangle)]
+pub extern "C" fn lgm_free(
+    alloc: Global,
+    map: &mut LgmMap,
+)
+    ensures same { is_ok result → map.new.handle.value ≡ map.old.handle.value }
+{
+}
+
+#[unsafe(no_mangle)]
+pub extern "C" fn lgm_text() -> u32 {
+}
+
+fn look_inside(map: &mut LgmMap) -> u32
+    ensures same { map.new.handle.value ≡ map.old.handle.value }
+{
+}
+"""
+
+
+def calls_that_leave_maps_are_cited():
+    """Those that are exported, with each clause that says of a map that it is as it was, whatever comes."""
+    assert clauses.keeping(SOURCE) == {"lgm_look": ["same", "same_before"]}
+    found = clauses.keeping(SOURCE.replace("is_ok result → ", ""))
+    assert found == {"lgm_look": ["same", "same_before"], "lgm_free": ["same"]}
+    both = {"lgm_free": ["same"], "lgm_see": ["same", "kept"], "lgm_look": ["same"]}
+    assert pages.cited(HEADER, both) == "`lgm_look`, `lgm_free`: `same`; `lgm_see`: `same`, `kept`"
+    row = "| it stays | <!-- calls that leave maps as they are: made of crates/lgm_c/src by python3 surface/make.py -->{}" \
+        "<!-- the end of what is made --> |"
+    assert pages.page(HEADER, row.format("`lgm_other`")) == row.format("")
+
+
 def main():
     """Runs each test."""
     tests = (names_go_by_rules, python_has_declarations, structs_in_structs_are_aligned, python_has_faults,
-             rust_has_declarations, rust_has_numbers, pages_of_the_manual_show_calls, tables_of_pages_are_made)
+             rust_has_declarations, rust_has_numbers, pages_of_the_manual_show_calls, tables_of_pages_are_made,
+             calls_that_leave_maps_are_cited)
     for test in tests:
         test()
     print(f"{len(tests)} passed")
