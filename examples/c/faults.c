@@ -342,6 +342,17 @@ static void null_with_no_items(lgm_map *map) {
     expect("their length", needed, 2);
 }
 
+/* The header's words, as the compiler has them, are the library's. */
+static void words(void) {
+    for (uint32_t number = 0; number < 1000; number++) {
+        uint8_t word[LGM_WORD_LEN];
+        memset(word, 5, sizeof word);
+        lgm_word(number, word);
+        expect("a word's end", word[LGM_WORD_LEN - 1], 0);
+        expect("a text", strcmp((const char *)word, lgm_text(number)), 0);
+    }
+}
+
 /* The first fault of a message, which takes no memory but of a query with lists. */
 static void first_faults(void) {
     static const uint8_t unknown[2] = {1, 3}, even[2] = {1, 4}, ids[37] = {1, 5, [35] = 1, [36] = 1};
@@ -482,6 +493,7 @@ int main(void) {
     } while (has_failed);
     expect("some memory", requests > 20, true);
     closed_handles();
+    words();
     first_faults();
     payloads();
     opening(&map);
