@@ -265,6 +265,31 @@ def test_python():
         report("Python, closed", str(fault) == "closed")
 
 
+def test_reasons():
+    """The reason why there is no route is one of the map as it is when the reason is first asked for."""
+    import lgm
+
+    lines = [line.split() for line in made_script("routes").decode().splitlines()]
+    payment = next(line[1:] for line in lines if line[0] == "route")
+    payer, payee, secret = (bytes.fromhex(payment[place]) for place in (0, 1, 4))
+
+    def without_route(network):
+        try:
+            network.route(payer, payee, int(payment[2]), int(payment[3]), secret)
+        except lgm.NoRoute as why:
+            return why
+
+    with lgm.Map(bytes.fromhex(CHAIN)) as network:
+        asked, later, closed = (without_route(network) for _ in range(3))
+        report("Python, a reason", asked.reason is lgm.Reason.PAYER_HAS_NO_CHANNEL)
+        for _, message, sig, funding in (line for line in lines if line[0] == "m"):
+            network.offer(bytes.fromhex(message), sig if sig == "all" else bytes.fromhex(sig),
+                          int(funding) if funding.isdigit() else funding)
+        report("Python, a route by now", without_route(network) is None and later.reason is None)
+        report("Python, a reason that was asked for before", str(asked) == "no-route: payer-has-no-channel")
+    report("Python, a reason of a closed map", closed.reason is None and str(closed) == "no-route")
+
+
 def announced(items):
     """The channels and nodes that messages announce, at the offsets of BOLT 7: what the package has to find."""
     channels, nodes = {}, {}
@@ -654,6 +679,7 @@ def main():
         test_faults(out)
         test_serve(out)
         test_python()
+        test_reasons()
         test_lookups()
         test_threads()
         test_published()

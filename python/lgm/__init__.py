@@ -23,9 +23,10 @@ The payloads of a part of a payment in several, with the metadata of its invoice
 
 Messages, points, chains and secrets are `bytes`, `bytearray` or `memoryview`. An argument of another type raises
 TypeError, and one out of its range ValueError, before the library is called. A call that fails raises the class of its
-fault, such as `NotNewer`; all of these are subclasses of `Fault`. `NoRoute` has a `reason`, and the text of `Malformed` the
-message's first fault. Any thread may use a `Map`, and `Estimates`: the calls
-of one wait for one another. Threads that are to read at once take a published map each, which never changes:
+fault, such as `NotNewer`; all of these are subclasses of `Fault`. `NoRoute` has a `reason`, which is searched for when it is
+first asked for, in the map as it is then, and the text of `Malformed` the message's first fault. Any thread may use a `Map`,
+and `Estimates`: the calls of one wait for one another. Threads that are to read at once take a published map each, which never
+changes:
 
     board = Board(network)       # publishes it
     board.publish()              # by the thread that changes the map

@@ -2,22 +2,34 @@
 
 from __future__ import annotations
 
-from typing import Optional
+from typing import Callable, Optional
 
-from . import library, numbered
-from .fault import FAULTS, Fault
+from . import library
+from .fault import FAULTS as FAULTS, Fault as Fault
 from .numbered import *
-
-__all__ = ["FAULTS", "Fault", "NoRoute", "check", "check_message"]
-__all__ += numbered.__all__
 
 
 class NoRoute(Unrouted, number=25, word="no-route"):
-    """There is no usable walk of 1 to 20 channels, within the limits. The `reason` says why, if it is known."""
+    """There is no usable walk of 1 to 20 channels, within the limits. The `reason` says why, and so does the text."""
 
-    def __init__(self, reason: Optional[Reason] = None) -> None:
-        super().__init__(reason.word if reason else "")
-        self.reason = reason
+    def __init__(self, reason: Optional[Reason] = None, find: Optional[Callable[[], Optional[Reason]]] = None) -> None:
+        """With a reason that is known, or with what finds it."""
+        super().__init__()
+        self._reason, self._find = reason, find
+
+    @property
+    def reason(self) -> Optional[Reason]:
+        """Why there is no route. It is found when it, or the text, is asked for the first time, by up to four searches in the
+        map as it is then: if the map has changed since, the reason may be another one, or None where there is a route now. It
+        is None as well if a search runs out of labels, steps or memory, and if the map was closed."""
+        find = self._find
+        if find is not None:
+            self._reason = find()
+            self._find = None  # with what it needs: the map and the lists of the payment
+        return self._reason
+
+    def __str__(self) -> str:
+        return f"{self.word}: {self.reason.word}" if self.reason else self.word
 
 
 def check(number: int) -> None:

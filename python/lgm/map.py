@@ -6,6 +6,7 @@ import ctypes
 import os
 import sys
 from contextlib import nullcontext
+from functools import partial
 from typing import Any, Callable, ContextManager, Iterable, Iterator, List, Optional, Tuple, Union
 
 from . import library
@@ -114,8 +115,7 @@ class Map(Handle):
         Then the route may not be the best one (`is_best`). Without one so far this raises `Undecided`: that says nothing about
         the payment. While it runs, other calls of the estimates wait; closed ones know nothing.
 
-        Without a route it raises `NoRoute`, whose `reason` a further search finds: None if that ran out of labels, steps or
-        memory."""
+        Without a route it raises `NoRoute`, whose `reason` is found by further searches once it is asked for."""
         payment = (
             number("amount_msat", amount_msat, 2**64), number("expiry", expiry, 2**32),
             octets("a point", payer, 33), octets("a point", payee, 33), octets("a secret", secret, 32))
@@ -128,11 +128,12 @@ class Map(Handle):
                               (b"".join(points), len(points))):
             lists += [lent(packed, held), count]
         search = search_members(preferences, most_delay, most_hops, most_labels, most_steps)
-        return self._route(library.ATTEMPT.pack(*payment, *lists, *search), estimates)
+        return self._route(library.ATTEMPT.pack(*payment, *lists, *search), held, estimates)
 
     @alone
-    def _route(self, attempt: bytes, estimates: Optional[Estimates]) -> Route:
-        """The route that a call writes. Whoever takes the locks of a map and of estimates takes the map's first."""
+    def _route(self, attempt: bytes, held: List[Any], estimates: Optional[Estimates]) -> Route:
+        """The route that a call writes, for an attempt with the addresses of lists that are held. Whoever takes the locks of a
+        map and of estimates takes the map's first."""
         lock: ContextManager[Any] = nullcontext()
         known = self._nothing_known.at
         if estimates is not None:
@@ -141,14 +142,15 @@ class Map(Handle):
             outcome = self._library.lgm_attempt_route(self._at, attempt, known, self._hops.at, library.MOST_HOPS,
                                                       self._payloads.at, library.MOST_PAYLOADS, self._struct.at)
         if outcome == NoRoute.number:
-            raise NoRoute(self._reason(attempt))
+            raise NoRoute(find=partial(self._reason, attempt, held))
         if outcome != library.SO_FAR:
             check(outcome)
         return self._written_route(is_best=outcome != library.SO_FAR)
 
-    def _reason(self, attempt: bytes) -> Optional[Reason]:
-        """Why there is no route, if that is found."""
-        return REASONS.get(self._library.lgm_no_route_reason(self._at, attempt))
+    def _reason(self, attempt: bytes, _held: List[Any]) -> Optional[Reason]:
+        """Why the map has no route for an attempt now, whose lists are held, if that is found: of a closed map it isn't."""
+        with self._lock:
+            return REASONS.get(self._library.lgm_no_route_reason(self._at, attempt))
 
     def _written_route(self, is_best: bool) -> Route:
         """The route in the buffers."""
