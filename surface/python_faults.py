@@ -1,14 +1,20 @@
-"""Makes python/lgm/numbered.py: a class for each number that is a fault, below one for each group, and the reasons."""
+"""Makes python/lgm/numbered.py: a class for each number that is a fault, below one for each group, and the reasons. Their names
+stand in the list of what the package exports, too: between two comments, one by one, since mypy reads no other list.
+"""
 
 from __future__ import annotations
 
+from pathlib import Path
 from typing import Dict, Iterator, List
 
 from surface.model import Group, Header, Number
 from surface.names import camel, fault_class, sentence, short
 from surface.texts import MADE, filled
 
+TOP = Path(__file__).resolve().parent.parent
 FILE = "python/lgm/numbered.py"
+PACKAGE = "python/lgm/__init__.py"
+BEGIN, END = "    # Made of include/lgm.h by python3 surface/make.py:\n", "    # The end of what is made.\n"
 # The class that all faults are of, by hand in fault.py: the group of this name has no class of its own.
 BASE = "Fault"
 # Groups of numbers that no call fails with, those that are an enumeration, and a fault whose class is by hand in faults.py.
@@ -74,11 +80,24 @@ def names(header: Header) -> List[str]:
                      if number.group.name not in NO_FAULTS | ENUMERATIONS and number.name not in BY_HAND]
 
 
+def listed(header: Header) -> str:
+    """These names as lines of a list."""
+    quoted = " ".join(f'"{name}",' for name in sorted(names(header)))
+    return "".join(f"{line}\n" for line in filled(quoted, 124, "    ", "    "))
+
+
+def exporting(header: Header, text: str) -> str:
+    """The package with these names in its list."""
+    before, begin, rest = text.partition(BEGIN)
+    _, end, behind = rest.partition(END)
+    return before + begin + listed(header) + end + behind
+
+
 def made(header: Header) -> Dict[str, str]:
-    """The file, by its place."""
+    """The files, by their places."""
     lines: List[str] = []
     for group in header.groups:
         if group.name not in NO_FAULTS:
             lines += of_group(group, [number for number in header.numbers if number.group == group])
-    listed = filled(", ".join(f'"{name}"' for name in sorted(names(header))) + "]", 124, "    ", "    ")
-    return {FILE: HEAD + "\n".join(["__all__ = [", *listed, *lines]) + "\n"}
+    text = HEAD + "\n".join([f"__all__ = [\n{listed(header)}]", *lines]) + "\n"
+    return {FILE: text, PACKAGE: exporting(header, (TOP / PACKAGE).read_text())}

@@ -80,6 +80,9 @@ def python_has_faults():
     made = text_of(python_faults, reasons)
     assert python_faults.names(reasons) == ["Reason"] and "class Reason(IntEnum):" in made
     assert "    OLD = 1  # it isn't new\n" in made
+    package = '__all__ = [\n    "Map",\n' + python_faults.BEGIN + "{}" + python_faults.END + "]\n"
+    found = python_faults.exporting(HEADER, package.format('    "Other",\n'))
+    assert found == package.format('    "Conflict", "Odd", "Old", "Refused",\n')
 
 
 def rust_has_declarations():

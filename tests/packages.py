@@ -41,6 +41,12 @@ ANSWERS = (TOP / "examples" / "payments.out").read_bytes()
 FIRST_C = block("docs/embedding.md", "#include <lgm.h>")
 BUILD, _, SAID = block("docs/embedding.md", "$ cc first.c $(pkg-config").partition("\n")
 FIRST_PYTHON = block("docs/embedding.md", "from lgm import ALL_FOUR, Map")
+# Names that are made of the header.
+NAMES = """import lgm
+from lgm import *
+number: int = NotNewer.number + lgm.NotNewer.number
+word: str = Reason.BEYOND_BOTH.word
+"""
 # What the tests of the Python package need of the repository, beside themselves.
 BESIDE = ("python/tests", "examples/payments.txt", "bench", "gossip")
 OLDEST_GLIBC = (2, 34)
@@ -127,19 +133,23 @@ def lintian_has_no_error(package):
 
 
 def types_are_right(wheel, folder):
-    """The package has type hints by which the page's first program is right, and another one isn't."""
+    """The package has type hints by which the page's first program and made names are right, and other types aren't."""
     if not shutil.which("mypy"):
         leave_out("the type hints of the Python package", "there is no mypy")
         return
     with zipfile.ZipFile(wheel) as archive:
         archive.extractall(folder / "typed")
-    program, wrong = folder / "first.py", folder / "wrong.py"
-    program.write_text(FIRST_PYTHON)
-    wrong.write_text(FIRST_PYTHON.replace("amount_msat=1_000", 'amount_msat="1_000"'))
+    programs = {"the page's program": (FIRST_PYTHON, 0), "made names": (NAMES, 0),
+                "a wrong argument": (FIRST_PYTHON.replace("amount_msat=1_000", 'amount_msat="1_000"'), 1),
+                "a wrong number": (NAMES.replace("number: int", "number: str"), 1),
+                "a wrong word": (NAMES.replace("word: str", "word: int"), 1)}
     mypy = ("mypy", "--strict", "--cache-dir", folder / "cache")
     environment = {**os.environ, "MYPYPATH": str(folder / "typed")}
-    typed = folder / "typed" / "lgm"
-    for what, file, status in (("the package", typed, 0), ("the page's program", program, 0), ("a wrong one", wrong, 1)):
+    checked = [("the package", folder / "typed" / "lgm", 0)]
+    for number, (what, (text, status)) in enumerate(programs.items()):
+        checked.append((what, folder / f"program_{number}.py", status))
+        checked[-1][1].write_text(text)
+    for what, file, status in checked:
         ran = subprocess.run((*mypy, file), env=environment, stdout=subprocess.PIPE, stderr=subprocess.PIPE, check=False)
         report(f"mypy, {what}", (ran if status else say_of(ran)).returncode == status)
 

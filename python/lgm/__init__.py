@@ -38,7 +38,6 @@ The library is loaded for the first `Map`. It is the file that LGM_LIBRARY names
 clone, the one in `examples/out`, where `examples/build-c` puts it; else the system's. `lgm.dump` writes a map to a file.
 """
 
-from . import numbered
 from .arrival import payloads
 from .board import Board
 from .estimates import Estimates
@@ -51,5 +50,13 @@ from .records import Channel, Direction, Edge, Estimate, Hop, Limit, Node, Prefe
 __all__ = [
     "ALL_FOUR", "ANNOUNCEMENT", "Board", "Channel", "Direction", "Edge", "Estimate", "Estimates", "Fault", "Hop", "Limit",
     "Map", "NOBODY", "NOT_ALL_FOUR", "NOT_ASKED", "NoRoute", "Node", "Preferences", "Route", "SPENT", "UPDATE_1", "UPDATE_2",
-    "WRONG", "payloads", "short_channel_id"]
-__all__ += numbered.__all__
+    "WRONG", "payloads", "short_channel_id",
+    # Made of include/lgm.h by python3 surface/make.py:
+    "AmountTooLarge", "AmountZero", "Argument", "Banned", "Chain", "Closed", "Conflict", "ExpiryTooLarge", "Full",
+    "Funding", "Ignored", "Known", "Malformed", "NoMaximum", "NoMemory", "NodeOrder", "NotAnnounced", "NotFilter",
+    "NotGossip", "NotNewer", "NotPublished", "NotQuery", "Nothing", "Open", "PayloadsTooLong", "Point", "Private",
+    "Published", "Reason", "Refused", "Room", "SelfPayment", "Signature", "TooManyEdges", "TooManyLimits", "Undecided",
+    "UnknownChannel", "UnknownEven", "UnknownNode", "Unrouted", "WrongFunding", "WrongHops", "WrongMessage",
+    "WrongRecordOrder", "WrongRecordType", "WrongSig",
+    # The end of what is made.
+]

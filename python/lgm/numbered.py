@@ -14,7 +14,8 @@ __all__ = [
     "NotGossip", "NotNewer", "NotPublished", "NotQuery", "Nothing", "Open", "PayloadsTooLong", "Point", "Private",
     "Published", "Reason", "Refused", "Room", "SelfPayment", "Signature", "TooManyEdges", "TooManyLimits", "Undecided",
     "UnknownChannel", "UnknownEven", "UnknownNode", "Unrouted", "WrongFunding", "WrongHops", "WrongMessage",
-    "WrongRecordOrder", "WrongRecordType", "WrongSig"]
+    "WrongRecordOrder", "WrongRecordType", "WrongSig",
+]
 
 
 class Refused(Fault):
