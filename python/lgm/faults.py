@@ -21,11 +21,12 @@ class NoRoute(Unrouted, number=25, word="no-route"):
     def reason(self) -> Optional[Reason]:
         """Why there is no route. It is found when it, or the text, is asked for the first time, by up to four searches in the
         map as it is then: if the map has changed since, the reason may be another one, or None where there is a route now. It
-        is None as well if a search runs out of labels, steps or memory, and if the map was closed."""
+        is None as well if a search runs out of labels, steps or memory, and if the map was closed. Until it is found the map
+        and what was passed with the payment stay in memory."""
         find = self._find
         if find is not None:
             self._reason = find()
-            self._find = None  # with what it needs: the map and the lists of the payment
+            self._find = None
         return self._reason
 
     def __str__(self) -> str:
