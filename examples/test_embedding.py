@@ -7,9 +7,7 @@ PROGRAM is `lgm`. It needs rt, and is left out without cc and ar, with status 77
 cargo, valgrind or Electrum's package, isn't there. It says so.
 """
 
-import ctypes
 import os
-import re
 import shutil
 import struct
 import subprocess
@@ -20,7 +18,10 @@ from pathlib import Path
 
 HERE = Path(__file__).resolve().parent
 TOP = HERE.parent
-sys.path.insert(1, str(TOP / "python"))
+sys.path[1:1] = [str(TOP), str(TOP / "python")]
+sys.dont_write_bytecode = True  # the repository gets no made files
+
+from surface import header  # noqa: E402
 
 PROGRAM = sys.argv[1] if len(sys.argv) > 1 else TOP / "lgm"
 CHAIN = "c1" * 32
@@ -88,7 +89,7 @@ def test_plain_preferred(out):
 
 def test_installed(prefix, folder):
     """A program is built by what lgm.pc says, and runs with the shared object of the header's version."""
-    version = re.search(r"#define LGM_VERSION (\d+)", (TOP / "include" / "lgm.h").read_text())[1]
+    version = header.read_file().version
     report("lgm.pc, version", f"\nVersion: {version}\n" in (prefix / "lib" / "pkgconfig" / "lgm.pc").read_text())
     if runs("pkg-config", "--version"):
         words = ["pkg-config", "--cflags", "--libs", "lgm"]
@@ -245,13 +246,6 @@ def test_python():
                 for hop in route.hops)
         return [f"route {route.sent_msat} {route.expiry} {len(route.hops)}", *hops]
 
-    first_faults = range(51, 62)
-    words = {number: ctypes.create_string_buffer(24) for number in range(1, 200) if number not in first_faults}
-    for number, word in words.items():
-        lgm.library.load().lgm_word(number, word)
-    words = {number: word.value.decode() for number, word in words.items() if word.value}
-    report("Python, words", words == {27: "so-far", **{reason.value: reason.word for reason in lgm.Reason},
-                                      **{number: kind.word for number, kind in lgm.faults.FAULTS.items()}})
     try:
         lgm.Map(bytes.fromhex(CHAIN)).offer(b"\1\0")
         report("Python, a first fault", False)
@@ -269,6 +263,31 @@ def test_python():
         report("Python, closed", False)
     except lgm.Closed as fault:
         report("Python, closed", str(fault) == "closed")
+
+
+def test_reasons():
+    """The reason why there is no route is one of the map as it is when the reason is first asked for."""
+    import lgm
+
+    lines = [line.split() for line in made_script("routes").decode().splitlines()]
+    payment = next(line[1:] for line in lines if line[0] == "route")
+    payer, payee, secret = (bytes.fromhex(payment[place]) for place in (0, 1, 4))
+
+    def without_route(network):
+        try:
+            network.route(payer, payee, int(payment[2]), int(payment[3]), secret)
+        except lgm.NoRoute as why:
+            return why
+
+    with lgm.Map(bytes.fromhex(CHAIN)) as network:
+        asked, later, closed = (without_route(network) for _ in range(3))
+        report("Python, a reason", asked.reason is lgm.Reason.PAYER_HAS_NO_CHANNEL)
+        for _, message, sig, funding in (line for line in lines if line[0] == "m"):
+            network.offer(bytes.fromhex(message), sig if sig == "all" else bytes.fromhex(sig),
+                          int(funding) if funding.isdigit() else funding)
+        report("Python, a route by now", without_route(network) is None and later.reason is None)
+        report("Python, a reason that was asked for before", str(asked) == "no-route: payer-has-no-channel")
+    report("Python, a reason of a closed map", closed.reason is None and str(closed) == "no-route")
 
 
 def announced(items):
@@ -651,7 +670,6 @@ def main():
         out, prefix = Path(folder), Path(folder, "prefix")
         subprocess.run([HERE / "build-c", "--prefix", prefix, out], check=True)
         os.environ.update(LGM_LIBRARY=str(out / "liblgm.so"), PYTHONPATH=str(TOP / "python"))
-        sys.dont_write_bytecode = True
         test_exports(out)
         test_calls(out)
         test_plain_overlays(out)
@@ -661,6 +679,7 @@ def main():
         test_faults(out)
         test_serve(out)
         test_python()
+        test_reasons()
         test_lookups()
         test_threads()
         test_published()

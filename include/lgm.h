@@ -28,9 +28,17 @@
  * Amounts are in msat (1000 msat are a satoshi), expiries are block heights, timestamps are seconds since 1970. A point
  * is a compressed public key, 33 bytes. A short_channel_id is a number: the block in its upper 24 bits, the index of the
  * transaction in the next 24, the output in the last 16.
+ *
+ * A call's comment ends with the numbers that it returns beside LGM_OK, of which the first that holds is returned. What it
+ * costs is said with n channels in the map; where nothing is said, it is constant.
  */
 #ifndef LGM_H
 #define LGM_H
+
+/*
+ * Of this header surface/make.py makes the declarations for Python and Rust and tables of docs, and ./package the manual
+ * pages. surface/header.py says how it is read.
+ */
 
 #include <stdbool.h>
 #include <stddef.h>
@@ -44,57 +52,52 @@ extern "C" {
  * What a call returns: LGM_OK, LGM_SO_FAR, or the number of the first fault. After a fault the map is unchanged, or what is
  * known of edges, and so are the buffers, except for the lengths that are written with LGM_ROOM, and the node of lgm_node.
  * LGM_SO_FAR is no fault: the buffers are written as with LGM_OK.
+ *
+ * LGM_NO_MEMORY comes only if the call would have succeeded, or returned LGM_ROOM, or was to search for a route, to make
+ * payloads, or to decode a query or a reply with lists: any other fault is returned even if memory is short. lgm_filter
+ * returns LGM_ROOM even then.
  */
 enum {
+    /* Done: the call has done what it is for. */
     LGM_OK = 0,
+    LGM_SO_FAR = 27, /* the route that was written may not be the best one, since labels or steps ran out */
 
-    /* A message or a close is refused, for the first of these reasons (docs/script.md, "Refusals of items"). */
-    LGM_MALFORMED = 1,
-    LGM_UNKNOWN_EVEN = 2,
-    LGM_IGNORED = 3,
-    LGM_NOT_GOSSIP = 4,
-    LGM_CHAIN = 5,
-    LGM_POINT = 6,
-    LGM_NODE_ORDER = 7,
-    LGM_PRIVATE = 8,
-    LGM_FUNDING = 9,
-    LGM_SIGNATURE = 10,
-    LGM_UNKNOWN_CHANNEL = 11,
-    LGM_KNOWN = 12,
-    /* 13, conflict, is never returned: contradicting announcements of a channel ban the nodes of both. */
-    LGM_UNKNOWN_NODE = 14,
-    LGM_NOT_NEWER = 15,
-    LGM_BANNED = 16,
+    /* Refused: a message or a close is refused, for the first of these reasons (docs/script.md, "Refusals of items"). */
+    LGM_MALFORMED = 1,        /* it is no well-formed message, as lgm_fault_of says */
+    LGM_UNKNOWN_EVEN = 2,     /* it has an unknown even type */
+    LGM_IGNORED = 3,          /* it has an unknown odd type */
+    LGM_NOT_GOSSIP = 4,       /* it is a query, a reply or a filter */
+    LGM_CHAIN = 5,            /* it is of another chain */
+    LGM_POINT = 6,            /* it names a node or a bitcoin key that is no compressed point */
+    LGM_NODE_ORDER = 7,       /* it names its two nodes out of order, or the same node twice */
+    LGM_PRIVATE = 8,          /* it has `dont_forward` set */
+    LGM_FUNDING = 9,          /* it has no valid unspent funding output of a possible size, or none was looked up */
+    LGM_SIGNATURE = 10,       /* it isn't signed as required */
+    LGM_UNKNOWN_CHANNEL = 11, /* the channel isn't in the map */
+    LGM_KNOWN = 12,           /* the channel is in the map, between the same nodes */
+    /* 13 is never returned: contradicting announcements of a channel ban the nodes of both. */
+    LGM_UNKNOWN_NODE = 14,    /* the node has no channel in the map */
+    LGM_NOT_NEWER = 15,       /* its timestamp isn't above the one in the map */
+    LGM_BANNED = 16,          /* a node of it is banned */
 
-    /* A payment has no route, for the first of these reasons (docs/script.md, "Payments without a route"). */
-    LGM_AMOUNT_ZERO = 21,
-    LGM_AMOUNT_TOO_LARGE = 22,
-    LGM_EXPIRY_TOO_LARGE = 23,
-    LGM_SELF_PAYMENT = 24,
-    LGM_NO_ROUTE = 25,
+    /* Unrouted: a payment has no route, for the first of these reasons (docs/script.md, "Payments without a route"). */
+    LGM_AMOUNT_ZERO = 21,      /* the payment is of 0 msat */
+    LGM_AMOUNT_TOO_LARGE = 22, /* the payment is of more than 2,100,000,000,000,000,000 msat */
+    LGM_EXPIRY_TOO_LARGE = 23, /* the payment expires above block 498,000,000 */
+    LGM_SELF_PAYMENT = 24,     /* the payer is the payee */
+    LGM_NO_ROUTE = 25,         /* there is no usable walk of 1 to 20 channels, within the limits */
 
-    /* Labels or steps ran out before a route was found: it says nothing about the payment. */
-    LGM_UNDECIDED = 26,
-    /* A route was written that is usable and within the limits, but may not be the best one: labels or steps ran out. */
-    LGM_SO_FAR = 27,
+    /* Reason: why a payment has no route, the first of these that holds (lgm_no_route_reason). */
+    LGM_PAYER_HAS_NO_CHANNEL = 41,   /* no edge leaves the payer */
+    LGM_PAYEE_TAKES_NO_PAYMENT = 42, /* no edge leads to the payee, or it requires features that aren't known */
+    LGM_PAYER_LACKS_AMOUNT = 43,     /* no edge out of the payer carries the amount */
+    LGM_PAYEE_LACKS_AMOUNT = 44,     /* no edge into the payee carries the amount */
+    LGM_UNCONNECTED = 45,            /* nothing connects the two for this amount */
+    LGM_BEYOND_DELAY = 46,           /* nothing within the limit of the delay does */
+    LGM_BEYOND_HOPS = 47,            /* nothing within the limit of the hops does */
+    LGM_BEYOND_BOTH = 48,            /* nothing within both limits does */
 
-    /* The message is neither a 261 nor a 263; it isn't a 265. */
-    LGM_NOT_QUERY = 31,
-    LGM_NOT_FILTER = 32,
-    /* The map has no announcement of the node. */
-    LGM_NOT_ANNOUNCED = 33,
-
-    /* Why a payment has no route, for the first of these reasons (lgm_no_route_reason). */
-    LGM_PAYER_HAS_NO_CHANNEL = 41,    /* no edge leaves the payer */
-    LGM_PAYEE_TAKES_NO_PAYMENT = 42,  /* no edge leads to the payee, or it requires features that aren't known */
-    LGM_PAYER_LACKS_AMOUNT = 43,      /* no edge out of the payer carries the amount */
-    LGM_PAYEE_LACKS_AMOUNT = 44,      /* no edge into the payee carries the amount */
-    LGM_UNCONNECTED = 45,             /* nothing connects the two for this amount */
-    LGM_BEYOND_DELAY = 46,            /* nothing within the limit of the delay does */
-    LGM_BEYOND_HOPS = 47,             /* nothing within the limit of the hops does */
-    LGM_BEYOND_BOTH = 48,             /* nothing within both limits does */
-
-    /* The first fault of a message (lgm_fault_of; docs/protocol.md, "The first fault of a malformed message"). */
+    /* First fault: why a message is malformed (lgm_fault_of; docs/protocol.md, "The first fault of a malformed message"). */
     LGM_FAULT_LONG = 51,            /* it has more than 65,535 bytes */
     LGM_FAULT_SHORT = 52,           /* it has fewer than the two bytes of a type */
     LGM_FAULT_CUT = 53,             /* it ends before its fields do */
@@ -103,34 +106,29 @@ enum {
     LGM_FAULT_TLV_CUT = 56,         /* its TLV stream ends inside a record */
     LGM_FAULT_TLV_NOT_MINIMAL = 57, /* a number of the stream isn't in its shortest form */
     /* 58 is never returned. */
-    LGM_FAULT_TLV_ORDER = 59, /* a record's type isn't above the one before */
-    LGM_FAULT_TLV_KIND = 60,  /* a record's type is even and unknown, or 1 and the record malformed */
-    LGM_FAULT_FLAGS = 61,     /* query flags aren't one for each id */
+    LGM_FAULT_TLV_ORDER = 59,       /* a record's type isn't above the one before */
+    LGM_FAULT_TLV_KIND = 60,        /* a record's type is even and unknown, or 1 and the record malformed */
+    LGM_FAULT_FLAGS = 61,           /* query flags aren't one for each id */
 
-    /* The handle is closed; the handle is open already. */
-    LGM_CLOSED = 100,
-    LGM_OPEN = 101,
-    /*
-     * Out of memory. The same call may be made again. It comes only if the call would have succeeded, or returned
-     * LGM_ROOM, or was to search for a route, to make payloads, or to decode a query or a reply with lists: any other fault
-     * is returned even if memory is short. lgm_filter returns LGM_ROOM even then.
-     */
-    LGM_NO_MEMORY = 102,
-    /* A buffer is too short. The lengths that are needed were written. */
-    LGM_ROOM = 104,
-    /* The map has more than 2,000,000,000 channels, too many for a route search. */
-    LGM_FULL = 105,
-    /* The map was published, so it doesn't change. */
-    LGM_PUBLISHED = 106,
-    /* There is none: no id or point above the given one, no such update, or no edge of which something is known. */
-    LGM_NONE = 107,
+    /* Fault: the call can't do what it is for. */
+    LGM_UNDECIDED = 26,     /* labels or steps ran out before a route was found: it says nothing about the payment */
+    LGM_NOT_QUERY = 31,     /* the message is neither a 261 nor a 263 */
+    LGM_NOT_FILTER = 32,    /* the message isn't a 265 */
+    LGM_NOT_ANNOUNCED = 33, /* the map has no announcement of the node */
+    LGM_CLOSED = 100,       /* the handle is closed */
+    LGM_OPEN = 101,         /* the handle is open already */
+    LGM_NO_MEMORY = 102,    /* out of memory: the same call may be made again */
+    LGM_ROOM = 104,         /* a buffer is too short: the lengths that are needed were written */
+    LGM_FULL = 105,         /* the map has more than 2,000,000,000 channels, too many for a route search */
+    LGM_PUBLISHED = 106,    /* the map was published, so it doesn't change */
+    LGM_NONE = 107,         /* no id or point above the given one, no such update, or no edge of which something is known */
 
-    /* An argument is wrong: 110 to 120. The word of each names it, and says what it may be. */
+    /* Argument: an argument is wrong. Its word names it, and says what it may be. */
     LGM_ARGUMENT_SIG = 110,          /* `sig` isn't 0 to 3 */
     LGM_ARGUMENT_FUNDING = 111,      /* `funding` isn't 0 to 3 */
     LGM_ARGUMENT_EDGES = 112,        /* there are more than LGM_MOST_EDGES edges */
     LGM_ARGUMENT_LIMITS = 113,       /* there are more than LGM_MOST_LIMITS limits */
-    LGM_ARGUMENT_MAXIMUM = 114,      /* an edge's `htlc_maximum_msat` is 0 */
+    LGM_ARGUMENT_MAXIMUM = 114,      /* an edge's `htlc_maximum_msat` is 0, so it would carry nothing */
     LGM_ARGUMENT_PUBLISHED = 115,    /* the map isn't a published one */
     LGM_ARGUMENT_HOPS = 116,         /* the hops aren't 1 to 20 that follow one another */
     LGM_ARGUMENT_RECORD_TYPE = 117,  /* a record's type is below 65,536 */
@@ -165,7 +163,7 @@ uint32_t lgm_version(void);
  */
 void lgm_word(uint32_t number, uint8_t word[LGM_WORD_LEN]);
 
-/* The same word as a string of the program, for printf and the like: one for each number, which lasts. */
+/* The word of a number as a string of the program, for printf and the like: one for each number, which lasts. */
 static inline const char *lgm_text(uint32_t number) {
     switch (number) {
     case LGM_OK: return "accepted";
@@ -243,6 +241,8 @@ static inline const char *lgm_text(uint32_t number) {
  * 9). If `all_known`, every feature is known, and the bits of `known` are ignored: pass NULL and 0. The seed is 16 random
  * bytes that nobody else knows, by which points are hashed.
  *
+ * Cost: a few allocations.
+ *
  * LGM_OPEN; LGM_NO_MEMORY.
  */
 uint32_t lgm_open(lgm_map *map, const uint8_t chain[32], bool all_known, const uint8_t *known,
@@ -251,6 +251,8 @@ uint32_t lgm_open(lgm_map *map, const uint8_t chain[32], bool all_known, const u
 /*
  * Frees the map of a handle, if it is open, and closes the handle. A published map is freed with the last handle of it,
  * unless it is to catch up (lgm_publish).
+ *
+ * Cost: the whole map. Of a published one constant, but for the last owner of one that doesn't take turns any more.
  */
 void lgm_free(lgm_map *map);
 
@@ -274,6 +276,10 @@ enum {
  * Offers a gossip message, beginning with the two bytes of its type, with the verdicts on it (BOLT 7). The bytes of
  * `signer` are used only with LGM_SIG_BY, but it always points to 33 bytes; `sat` is used only with LGM_FUNDING_UNSPENT.
  *
+ * Cost: log n; for a ban, or a node whose features change, also log n for each channel of the nodes. When as much was
+ * accepted as the map has channels, and 1,024 more, since the mark's copy or the last but one publication was brought up
+ * to date, this is done, as for lgm_close_channel and lgm_ban.
+ *
  * LGM_CLOSED; LGM_PUBLISHED; LGM_ARGUMENT_SIG; LGM_ARGUMENT_FUNDING; 1 to 16; LGM_NO_MEMORY.
  */
 uint32_t lgm_offer(lgm_map *map, const uint8_t *message, size_t message_len, uint32_t sig,
@@ -286,21 +292,27 @@ uint32_t lgm_offer(lgm_map *map, const uint8_t *message, size_t message_len, uin
  * LGM_FUNDING_UNSPENT, of up to 2,100,000,000,000,000 satoshi, on a channel_announcement, and LGM_SIG_BY with that key on the
  * others. Of a published map it tells what that map would accept if it still changed. The map is unchanged.
  *
+ * Cost: log n, and the message is read twice: some 1,000 instructions of an update that isn't newer, where lgm_offer
+ * takes some 640.
+ *
  * LGM_CLOSED; 1 to 8; 11 to 16; LGM_NO_MEMORY, of a query or a reply with lists alone: no other message takes memory.
  */
 uint32_t lgm_wanted(lgm_map *map, const uint8_t *message, size_t message_len, uint8_t signer[33]);
 
 /*
- * The first fault of a message, as LGM_MALFORMED doesn't tell: LGM_OK if it has none, LGM_UNKNOWN_EVEN or LGM_IGNORED of an
- * unknown type, else 51 to 61.
+ * The first fault of a message, as LGM_MALFORMED doesn't tell: LGM_OK if it has none.
  *
- * LGM_NO_MEMORY, of a query or a reply with lists alone.
+ * Cost: the message is read once.
+ *
+ * LGM_UNKNOWN_EVEN; LGM_IGNORED; 51 to 61; LGM_NO_MEMORY, of a query or a reply with lists alone.
  */
 uint32_t lgm_fault_of(const uint8_t *message, size_t message_len);
 
 /*
  * Closes a channel, because its funding output was spent: removes it with its updates, and the announcement of each of
  * its nodes that has no other channel.
+ *
+ * Cost: log n, and a step for each channel of its two nodes.
  *
  * LGM_CLOSED; LGM_PUBLISHED; LGM_UNKNOWN_CHANNEL; LGM_NO_MEMORY.
  */
@@ -310,6 +322,8 @@ uint32_t lgm_close_channel(lgm_map *map, uint64_t scid);
  * Bans a node, as contradicting announcements of a channel ban the nodes of both: removes its channels with their updates,
  * and the announcement of each node that has no other channel. Announcements of it and of its channels are refused from
  * then on. A ban lasts as long as the map. The point isn't checked: any 33 bytes can be banned.
+ *
+ * Cost: log n for each channel of the node, and a step for each channel of their other nodes.
  *
  * LGM_CLOSED; LGM_PUBLISHED; LGM_BANNED; LGM_NO_MEMORY.
  */
@@ -354,6 +368,9 @@ typedef struct {
  * `lengths`. In a map that changes the first search builds the view in which routes are searched, and later calls update
  * it; a published map has its view from the start.
  *
+ * Cost: a search, which takes from some ten microseconds to a few milliseconds on the public network. The first one in a
+ * map that changes also builds the view of the whole map.
+ *
  * LGM_CLOSED; LGM_FULL; 21 to 25; LGM_ROOM; LGM_NO_MEMORY.
  */
 uint32_t lgm_route(lgm_map *map, const lgm_payment *payment, lgm_hop *hops, size_t hops_len,
@@ -381,6 +398,8 @@ typedef struct {
  * payment in several, and with payment metadata or custom records (BOLT 4, "Payload Format"). Reads the hops; writes to
  * each the length of its payload, which alone may change; to `payloads` the payloads, as lgm_route does; and the numbers of
  * both to `lengths`. That the parts of a payment add up to its total isn't checked.
+ *
+ * Cost: some 2 microseconds for one hop, and 18 for 20: a few allocations for each hop and record.
  *
  * LGM_ARGUMENT_HOPS, unless the hops are 1 to 20, each of which begins where the one before ends, with no greater amount
  * and no later expiry; 117 to 119, of the first record that is wrong, or of payloads that are too long; LGM_ROOM;
@@ -427,6 +446,8 @@ uint32_t lgm_estimate(lgm_estimates *estimates, uint64_t scid, const uint8_t fro
  * Sets what is believed of an edge, whatever was known of it. LGM_NO_MEMORY comes only if nothing was, here and in the next
  * two calls.
  *
+ * Cost: constant, but for a table that grows.
+ *
  * LGM_CLOSED; LGM_NO_MEMORY.
  */
 uint32_t lgm_estimates_set(lgm_estimates *estimates, uint64_t scid, const uint8_t from[33],
@@ -436,6 +457,8 @@ uint32_t lgm_estimates_set(lgm_estimates *estimates, uint64_t scid, const uint8_
  * Notes that an edge carried an amount, as when a try fails at a later hop, or reaches the payee. It surely carries as much:
  * `least_msat` and `most_msat` are raised to the amount, if they are less.
  *
+ * Cost: constant, but for a table that grows.
+ *
  * LGM_CLOSED; LGM_NO_MEMORY.
  */
 uint32_t lgm_estimates_carried(lgm_estimates *estimates, uint64_t scid, const uint8_t from[33], uint64_t amount_msat);
@@ -443,6 +466,8 @@ uint32_t lgm_estimates_carried(lgm_estimates *estimates, uint64_t scid, const ui
 /*
  * Notes that an edge failed to carry an amount. It surely carries less: `least_msat` and `most_msat` are lowered to 1 msat
  * below the amount, if they are more.
+ *
+ * Cost: constant, but for a table that grows.
  *
  * LGM_CLOSED; LGM_NO_MEMORY.
  */
@@ -472,22 +497,22 @@ uint32_t lgm_estimates_at(lgm_estimates *estimates, size_t place, uint64_t *scid
  * invoice (BOLT 11, field `r`). Its nodes needn't be in the map, and it has no capacity.
  */
 typedef struct {
-    uint64_t scid; /* as the node that the edge leaves resolves it */
-    uint64_t htlc_minimum_msat;
-    uint64_t htlc_maximum_msat; /* 1 or more: of a channel of the payer's own, what it can send; of a hint, UINT64_MAX */
-    /* The payer's own channel charges nothing and adds no delay, so of one these don't matter. */
-    uint32_t fee_base_msat;
-    uint32_t fee_proportional_millionths;
-    uint16_t cltv_expiry_delta;
-    uint8_t from[33]; /* the node that it leaves */
-    uint8_t to[33];   /* the node that it leads to */
+    uint64_t scid;              /* as the node that the edge leaves resolves it */
+    uint64_t htlc_minimum_msat; /* the least amount of a payment over it */
+    /* the most that it carries, 1 or more: of a channel of the payer's own, what it can send; of a hint, UINT64_MAX */
+    uint64_t htlc_maximum_msat;
+    uint32_t fee_base_msat;               /* the payer's own channel charges nothing and adds no delay, whatever it has here */
+    uint32_t fee_proportional_millionths; /* of what is forwarded */
+    uint16_t cltv_expiry_delta;           /* in blocks */
+    uint8_t from[33];                     /* the node that it leaves */
+    uint8_t to[33];                       /* the node that it leads to */
 } lgm_edge;
 
-/* What the edge with an id out of a node carries at most, one of the map or of the extra ones: 0 excludes it. */
+/* What the edge with an id out of a node carries at most, one of the map or of the extra ones. */
 typedef struct {
     uint64_t scid;
-    uint64_t most_msat;
-    uint8_t from[33]; /* the node that the edge leaves: the other direction of the channel has a limit of its own */
+    uint64_t most_msat; /* 0 excludes the edge */
+    uint8_t from[33];   /* the node that the edge leaves: the other direction of the channel has a limit of its own */
 } lgm_limit;
 
 typedef struct {
@@ -550,6 +575,9 @@ typedef struct {
  * The map, what is known of edges, and all else that is passed are unchanged. While the call runs, it alone uses the handle
  * of the estimates. With a closed one, and zeros but the payment, it does what lgm_route does, and costs the same.
  *
+ * Cost: that of lgm_route, and more for what is passed; with preferences, estimates or a limit of the delay usually a
+ * few tenths of a millisecond, and by default at most some 0.2 seconds, with up to 60 MB.
+ *
  * LGM_CLOSED, of `map`; LGM_ARGUMENT_EDGES; LGM_ARGUMENT_LIMITS; LGM_ARGUMENT_MAXIMUM; LGM_FULL; 21 to 24; LGM_NO_MEMORY;
  * 25 to 27; LGM_ROOM, in place of LGM_SO_FAR too.
  */
@@ -561,6 +589,8 @@ uint32_t lgm_attempt_route(lgm_map *map, const lgm_attempt *attempt, lgm_estimat
  * that holds, over the map's edges and what the payer knows beside them; or LGM_OK if there is a route within its limits.
  * It looks at all edges, and makes up to four searches, each with all labels and steps.
  *
+ * Cost: a look at each edge, and one search, or up to four where there is a route without the limits.
+ *
  * LGM_CLOSED; LGM_ARGUMENT_EDGES; LGM_ARGUMENT_LIMITS; LGM_ARGUMENT_MAXIMUM; LGM_FULL; 21 to 24; LGM_NO_MEMORY; 41 to 48;
  * LGM_UNDECIDED, if labels or steps ran out first.
  */
@@ -571,6 +601,9 @@ uint32_t lgm_no_route_reason(lgm_map *map, const lgm_attempt *attempt);
  * replies to `replies`, whole messages, each after its length in eight bytes, little-endian; and the length of all of
  * that to `needed`. A query for another chain is answered too, as BOLT 7 says.
  *
+ * Cost: log n for each id, or a step for each channel in the range. The reply is counted first, and with room for it
+ * there are two copies of it in memory for a moment.
+ *
  * LGM_CLOSED; 1 to 3; LGM_NOT_QUERY; LGM_ROOM; LGM_NO_MEMORY.
  */
 uint32_t lgm_query(lgm_map *map, const uint8_t *query, size_t query_len, uint8_t *replies,
@@ -580,6 +613,8 @@ uint32_t lgm_query(lgm_map *map, const uint8_t *query, size_t query_len, uint8_t
  * Finds the messages of the map that pass a peer's gossip_timestamp_filter (265), to be sent when the filter arrives.
  * They are written as by lgm_query.
  *
+ * Cost: two passes over the whole map, one of which counts.
+ *
  * LGM_CLOSED; 1 to 3; LGM_NOT_FILTER; LGM_CHAIN; LGM_ROOM; LGM_NO_MEMORY.
  */
 uint32_t lgm_filter(lgm_map *map, const uint8_t *filter, size_t filter_len, uint8_t *messages,
@@ -587,16 +622,24 @@ uint32_t lgm_filter(lgm_map *map, const uint8_t *filter, size_t filter_len, uint
 
 /*
  * Finds the messages that pass the filter now and didn't at the mark, which are news to a peer. Before the first mark, and
- * in a published map, which has none, these are all that pass. They are written as by lgm_query, and the faults are those
- * of lgm_filter.
+ * in a published map, which has none, these are all that pass. They are written as by lgm_query.
+ *
+ * Cost: log n for each channel and node that changed since the mark, or for each of the map, if more was accepted than
+ * it has channels, and 1,024 more. The first call behind a mark also brings the copy of the map there, by what was
+ * accepted since the mark before.
+ *
+ * LGM_CLOSED; 1 to 3; LGM_NOT_FILTER; LGM_CHAIN; LGM_ROOM; LGM_NO_MEMORY.
  */
 uint32_t lgm_news(lgm_map *map, const uint8_t *filter, size_t filter_len, uint8_t *messages,
                   size_t messages_len, size_t *needed);
 
 /*
- * Finds the messages that pass the filter in a map and didn't in another, earlier one. They are written as by lgm_query,
- * and the faults are those of lgm_filter; LGM_CLOSED of either. The chain is that of `after`. Both maps are traversed. The
- * two are different handles, each of a map that changes or of a published one.
+ * Finds the messages that pass the filter in a map and didn't in another, earlier one. They are written as by lgm_query.
+ * The chain is that of `after`. The two are different handles, each of a map that changes or of a published one.
+ *
+ * Cost: a pass over both maps.
+ *
+ * LGM_CLOSED, of either; 1 to 3; LGM_NOT_FILTER; LGM_CHAIN; LGM_ROOM; LGM_NO_MEMORY.
  */
 uint32_t lgm_news_between(lgm_map *before, lgm_map *after, const uint8_t *filter, size_t filter_len,
                           uint8_t *messages, size_t messages_len, size_t *needed);
@@ -606,6 +649,9 @@ uint32_t lgm_news_between(lgm_map *before, lgm_map *after, const uint8_t *filter
  * message, close and ban is kept until the mark moves, or until there are more than the map has channels, and 1,024 more:
  * then none are, and the next lgm_news takes the time of the map. Before the first of them that comes after the first mark,
  * or after one that none led to, the map's index is copied. None are kept for a mark on a map without channels.
+ *
+ * Cost: constant; the next message, close or ban behind the first call copies the map, but not its messages, and so
+ * behind a later one, if more was accepted since the mark before than the map has channels, and 1,024 more.
  *
  * LGM_CLOSED; LGM_PUBLISHED.
  */
@@ -619,6 +665,9 @@ uint32_t lgm_mark(lgm_map *map);
  * cost is that of applying what it lacks. Else the index of the map is copied, but not its messages, and its view is built.
  * From the first publication on, what is accepted is kept until it is published twice, or until it is more than the map
  * has channels. A published map is published by one more handle of it, as by lgm_share.
+ *
+ * Cost: what was accepted since the last but one publication; or a copy of the index and a new view. Of a published map
+ * constant.
  *
  * LGM_CLOSED, of `map`; LGM_OPEN, of `published`, also if it is the handle of the map itself; LGM_NO_MEMORY.
  */
@@ -660,6 +709,8 @@ typedef struct {
 /*
  * Looks up a channel.
  *
+ * Cost: log n.
+ *
  * LGM_CLOSED; LGM_UNKNOWN_CHANNEL.
  */
 uint32_t lgm_channel(lgm_map *map, uint64_t scid, lgm_channel_info *channel);
@@ -675,6 +726,8 @@ typedef struct {
  * Looks up a node, and writes its addresses as they were announced, descriptors one after the other, and their length to
  * `needed`. With LGM_ROOM the node is written, but not the addresses.
  *
+ * Cost: log n.
+ *
  * LGM_CLOSED; LGM_NOT_ANNOUNCED; LGM_ROOM.
  */
 uint32_t lgm_node(lgm_map *map, const uint8_t point[33], lgm_node_info *node, uint8_t *addresses,
@@ -684,6 +737,8 @@ uint32_t lgm_node(lgm_map *map, const uint8_t point[33], lgm_node_info *node, ui
  * Writes a message of a channel as it was received, and its length to `needed`: the announcement if `which` is 0, the update
  * that node 1 sets if it is 1, and that of node 2 if it is 2.
  *
+ * Cost: log n.
+ *
  * LGM_CLOSED; LGM_ARGUMENT_WHICH; LGM_UNKNOWN_CHANNEL; LGM_NONE, without such an update; LGM_ROOM.
  */
 uint32_t lgm_channel_message(lgm_map *map, uint64_t scid, uint32_t which, uint8_t *message, size_t message_len,
@@ -691,6 +746,8 @@ uint32_t lgm_channel_message(lgm_map *map, uint64_t scid, uint32_t which, uint8_
 
 /*
  * Writes the announcement of a node in the same way.
+ *
+ * Cost: log n.
  *
  * LGM_CLOSED; LGM_NOT_ANNOUNCED; LGM_ROOM.
  */
@@ -700,6 +757,8 @@ uint32_t lgm_node_message(lgm_map *map, const uint8_t point[33], uint8_t *messag
  * Go through the channels of a map by id, and by point, byte by byte, through its nodes with an announcement and through its
  * banned nodes. Each replaces `*scid` or `point` by the least one above it or, if `is_first`, by the least of all. With
  * LGM_NONE it is unchanged. Between two calls the map may change.
+ *
+ * Cost: log n, or of the number of banned nodes.
  *
  * LGM_CLOSED; LGM_NONE.
  */

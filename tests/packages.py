@@ -29,10 +29,11 @@ from pathlib import Path
 sys.dont_write_bytecode = True  # the repository gets no made files
 
 TOP = Path(__file__).resolve().parent.parent
-sys.path.insert(1, str(TOP / "examples"))
+sys.path[1:1] = [str(TOP), str(TOP / "examples")]
 
 from blocks import block
 from clean_root import bare, layered, succeeds, with_own_mounts
+from surface import header
 
 SKIPPED = 77
 VERSION = (TOP / "VERSION").read_text().strip()
@@ -40,6 +41,12 @@ ANSWERS = (TOP / "examples" / "payments.out").read_bytes()
 FIRST_C = block("docs/embedding.md", "#include <lgm.h>")
 BUILD, _, SAID = block("docs/embedding.md", "$ cc first.c $(pkg-config").partition("\n")
 FIRST_PYTHON = block("docs/embedding.md", "from lgm import ALL_FOUR, Map")
+# Names that are made of the header.
+NAMES = """import lgm
+from lgm import *
+number: int = NotNewer.number + lgm.NotNewer.number
+word: str = Reason.BEYOND_BOTH.word
+"""
 # What the tests of the Python package need of the repository, beside themselves.
 BESIDE = ("python/tests", "examples/payments.txt", "bench", "gossip")
 OLDEST_GLIBC = (2, 34)
@@ -79,7 +86,7 @@ def made_packages(folder):
 
 
 def versions_agree():
-    """The program, the changelog and the crate have the version of the packages; the wrappers have the library's."""
+    """The program, the changelog and the crate have the version of the packages."""
     def found(pattern, file):
         return re.search(pattern, (TOP / file).read_text(), flags=re.MULTILINE)[1]
 
@@ -90,10 +97,6 @@ def versions_agree():
     report("the version of the archive in the README", found(r"lgm-(.*)-x86_64-linux\.tar\.gz", "README.md") == VERSION)
     report("the version in docs/operating.md", found(r"`lgm --version`: `lgm (.*)`, the file", "docs/operating.md") == VERSION)
     report("the version of the crate", found(r'^version = "(.*)"', "examples/rust/Cargo.toml") == f"{VERSION}.0")
-    library = found(r"^#define LGM_VERSION (\d+)", "include/lgm.h")
-    for pattern, file in ((r"^VERSION = (\d+)", "python/lgm/library.py"), (r'"lgm = (\d+)"', "examples/rust/build.rs"),
-                          (r"LIBRARY_VERSION: u32 = (\d+)", "examples/rust/src/lib.rs")):
-        report(f"the version of the library in {file}", found(pattern, file) == library)
 
 
 def record_is_right(wheel):
@@ -130,19 +133,23 @@ def lintian_has_no_error(package):
 
 
 def types_are_right(wheel, folder):
-    """The package has type hints by which the page's first program is right, and another one isn't."""
+    """The package has type hints by which the page's first program and made names are right, and other types aren't."""
     if not shutil.which("mypy"):
         leave_out("the type hints of the Python package", "there is no mypy")
         return
     with zipfile.ZipFile(wheel) as archive:
         archive.extractall(folder / "typed")
-    program, wrong = folder / "first.py", folder / "wrong.py"
-    program.write_text(FIRST_PYTHON)
-    wrong.write_text(FIRST_PYTHON.replace("amount_msat=1_000", 'amount_msat="1_000"'))
+    programs = {"the page's program": (FIRST_PYTHON, 0), "made names": (NAMES, 0),
+                "a wrong argument": (FIRST_PYTHON.replace("amount_msat=1_000", 'amount_msat="1_000"'), 1),
+                "a wrong number": (NAMES.replace("number: int", "number: str"), 1),
+                "a wrong word": (NAMES.replace("word: str", "word: int"), 1)}
     mypy = ("mypy", "--strict", "--cache-dir", folder / "cache")
     environment = {**os.environ, "MYPYPATH": str(folder / "typed")}
-    typed = folder / "typed" / "lgm"
-    for what, file, status in (("the package", typed, 0), ("the page's program", program, 0), ("a wrong one", wrong, 1)):
+    checked = [("the package", folder / "typed" / "lgm", 0)]
+    for number, (what, (text, status)) in enumerate(programs.items()):
+        checked.append((what, folder / f"program_{number}.py", status))
+        checked[-1][1].write_text(text)
+    for what, file, status in checked:
         ran = subprocess.run((*mypy, file), env=environment, stdout=subprocess.PIPE, stderr=subprocess.PIPE, check=False)
         report(f"mypy, {what}", (ran if status else say_of(ran)).returncode == status)
 
@@ -202,7 +209,7 @@ def installed(root, package, with_apt):
 
 
 def manuals_are_right(root):
-    """`man` shows the pages without a warning, that of the library by each call's name."""
+    """`man` shows the pages without a warning, and by the name of each call of the library its declaration."""
     if not root.has("man"):
         leave_out("the manual pages", "there is no man")
         return
@@ -210,13 +217,14 @@ def manuals_are_right(root):
     options = re.findall(r"^\| `(--\w+) HEX`|^\| `(--\w+) N`", (TOP / "docs/script.md").read_text(), flags=re.MULTILINE)
     shown = all("".join(option) in ran.stdout.decode() for option in options)
     report("lgm(1)", ran.returncode == 0 and not ran.stderr and shown and len(options) == 3)
-    header = (TOP / "include/lgm.h").read_text()
-    calls = set(re.findall(r"^\w+ (lgm_\w+)\(", header, flags=re.MULTILINE))
-    inline = set(re.findall(r"^static inline [\w *]+\b(lgm_\w+)\(", header, flags=re.MULTILINE))
-    ran = root.run("man --warnings lgm_route")
-    shown = set(re.findall(r"\b(lgm_\w+)\(", ran.stdout.decode()))
-    report("lgm(3)", ran.returncode == 0 and not ran.stderr and shown == calls | inline)
-    report("a manual page of each call", all((root.folder / f"usr/share/man/man3/{name}.3.gz").exists() for name in calls))
+    calls = [call for topic in header.read_file().described for call in topic]
+    ran = root.run("man --warnings 3 lgm")
+    shown = all(f"{call.name}(3)" in ran.stdout.decode() for call in calls)
+    report("lgm(3)", ran.returncode == 0 and not ran.stderr and shown)
+    for call in calls:
+        ran = root.run(f"man --warnings {call.name}")
+        shown = "".join(call.prototype.split()) in "".join(ran.stdout.decode().split())
+        report(f"{call.name}(3)", ran.returncode == 0 and not ran.stderr and shown)
 
 
 def completion_is_right(root):

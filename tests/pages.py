@@ -28,7 +28,7 @@ PAGES = sorted([*TOP.glob("*.md"), *TOP.glob("docs/*.md"), *TOP.glob("bench/*.md
 SOURCES = ("crates/*/src/**/*.rt", "crates/*/specs/**/*.antt", "crates/*/proofs/**/*.antt", "include/*.h",
            "crates/*/must-fail/*.edit", "crates/*/args", "examples/**/*.py", "examples/c/*.c", "examples/rust/**/*.rs",
            "examples/build-c", "bench/*.py", "gossip/*.py", "tests/**/*.py", "*.py", "python/**/*.py",
-           "packaging/*", "crates.txt", "lgm", "test", "package", ".ci/run")
+           "packaging/*", "surface/*.py", "crates.txt", "lgm", "test", "package", ".ci/run")
 COMMANDS = ("rt", "lgm", "./lgm", "./test", "python3", "git", "cd", "awk", "bitcoin-cli")
 # Names that aren't this repository's: the kit's, clap's, the C library's, the protocol's, placeholders.
 OUTSIDE = set("""
@@ -135,7 +135,7 @@ class Checker:
         self.words = set(OUTSIDE)
         for pattern in SOURCES:
             for source in TOP.glob(pattern):
-                if "out" not in source.parts:
+                if "out" not in source.parts and source.is_file():
                     self.words |= set(NAME.findall(source.read_text(errors="replace")))
                     self.words |= {source.stem, *source.parts}
         self.faults = []

@@ -1,7 +1,7 @@
 #!/usr/bin/env python3
 """Runs the tests that aren't of a crate and want no library for C: of the pages, the build script, `./package`, `./test`, the
-comparison of the header, the Python package, the examples, the scripts of tests/scripts with their answers, the program
-beside Electrum, where calls fail, also in tests of crates, and where it runs for long.
+comparison of the header, what is made of it, the Python package, the examples, the scripts of tests/scripts with their
+answers, the program beside Electrum, where calls fail, also in tests of crates, and where it runs for long.
 
     python3 tests/run.py [PROGRAM]
 
@@ -16,8 +16,9 @@ from pathlib import Path
 
 TOP = Path(__file__).resolve().parent.parent
 ALONE = ("tests/pages.py", "tests/test_build.py", "tests/test_package.py", "tests/test_all.py", "tests/test_exports.py",
-         "tests/test_texts.py", "gossip/test_messages.py", "gossip/test_notation.py", "tests/memory.py",
-         "python/tests/test_lgm.py", "examples/network/test_plots.py")
+         "surface/make.py --check", "surface/test_header.py", "surface/test_makers.py", "tests/test_texts.py",
+         "gossip/test_messages.py", "gossip/test_notation.py", "tests/memory.py", "python/tests/test_lgm.py",
+         "examples/network/test_plots.py")
 WITH_PROGRAM = ("examples/tools/test_why.py", "examples/tools/test_client.py", "examples/network/test_network.py",
                 "examples/electrum/test_wallet_database.py", "examples/test_examples.py", "examples/tools/test_why_route.py",
                 "examples/tools/test_shorten.py", "bench/test_route_picture.py", "tests/texts.py",
@@ -40,7 +41,7 @@ def main():
     if not program:
         chain = "00" * 32
         subprocess.run([TOP / "lgm", "run", "--chain", chain], stdin=subprocess.DEVNULL, check=True)
-    runs = [(test,) for test in ALONE] + [(test, *program) for test in (*WITH_PROGRAM, *BUILT)]
+    runs = [tuple(test.split()) for test in ALONE] + [(test, *program) for test in (*WITH_PROGRAM, *BUILT)]
     results = {words[0]: ended(*words) for words in runs}
     failed = [name for name, status in results.items() if status not in (0, LEFT_OUT)]
     print(f"== {list(results.values()).count(0)} passed, {len(failed)} failed", *failed)

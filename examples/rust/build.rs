@@ -4,8 +4,7 @@ use std::env;
 use std::path::Path;
 use std::process::Command;
 
-/// The version of the library, which the declarations of this crate are of.
-const VERSION: &str = "lgm = 4";
+include!("src/version.rs");
 
 fn main() {
     println!("cargo::rerun-if-env-changed=LGM_LIBRARY_DIR");
@@ -26,9 +25,10 @@ fn link_from(folder: &Path) {
 /// Links the library that is installed.
 fn link_found() {
     println!("cargo::rerun-if-env-changed=PKG_CONFIG_PATH");
-    let ran = Command::new("pkg-config").args(["--libs", VERSION]).output();
+    let wanted = format!("lgm = {LIBRARY_VERSION}");
+    let ran = Command::new("pkg-config").args(["--libs", &wanted]).output();
     let Some(found) = ran.ok().filter(|output| output.status.success()) else {
-        panic!("pkg-config doesn't find {VERSION}: install it, or name the folder of liblgm.a in LGM_LIBRARY_DIR");
+        panic!("pkg-config doesn't find {wanted}: install it, or name the folder of liblgm.a in LGM_LIBRARY_DIR");
     };
     for word in String::from_utf8_lossy(&found.stdout).split_whitespace() {
         if let Some(folder) = word.strip_prefix("-L") {

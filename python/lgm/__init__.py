@@ -23,9 +23,10 @@ The payloads of a part of a payment in several, with the metadata of its invoice
 
 Messages, points, chains and secrets are `bytes`, `bytearray` or `memoryview`. An argument of another type raises
 TypeError, and one out of its range ValueError, before the library is called. A call that fails raises the class of its
-fault, such as `NotNewer`; all of these are subclasses of `Fault`. `NoRoute` has a `reason`, and the text of `Malformed` the
-message's first fault. Any thread may use a `Map`, and `Estimates`: the calls
-of one wait for one another. Threads that are to read at once take a published map each, which never changes:
+fault, such as `NotNewer`; all of these are subclasses of `Fault`. `NoRoute` has a `reason`, which is searched for when it is
+first asked for, in the map as it is then, and the text of `Malformed` the message's first fault. Any thread may use a `Map`,
+and `Estimates`: the calls of one wait for one another. Threads that are to read at once take a published map each, which never
+changes:
 
     board = Board(network)       # publishes it
     board.publish()              # by the thread that changes the map
@@ -40,22 +41,22 @@ clone, the one in `examples/out`, where `examples/build-c` puts it; else the sys
 from .arrival import payloads
 from .board import Board
 from .estimates import Estimates
-from .faults import (AmountTooLarge, AmountZero, Argument, Banned, Chain, Closed, Conflict, ExpiryTooLarge, Fault, Full,
-                     Funding, Ignored, Known, Malformed, NodeOrder, NoMaximum, NoMemory, NoRoute, NotAnnounced, NotFilter,
-                     NotGossip, Nothing, NotNewer, NotPublished, NotQuery, Open, PayloadsTooLong, Point, Private, Published,
-                     Reason, Refused, Room, SelfPayment, Signature, TooManyEdges, TooManyLimits, Undecided, UnknownChannel,
-                     UnknownEven, UnknownNode, Unrouted, WrongFunding, WrongHops, WrongMessage, WrongRecordOrder,
-                     WrongRecordType, WrongSig)
+from .faults import Fault, NoRoute
 from .map import ANNOUNCEMENT, UPDATE_1, UPDATE_2, Map
+from .numbered import *
 from .packing import ALL_FOUR, NOBODY, NOT_ALL_FOUR, NOT_ASKED, SPENT, WRONG
 from .records import Channel, Direction, Edge, Estimate, Hop, Limit, Node, Preferences, Route, short_channel_id
 
 __all__ = [
-    "ALL_FOUR", "ANNOUNCEMENT", "AmountTooLarge", "AmountZero", "Argument", "Banned", "Board", "Chain", "Channel", "Closed",
-    "Conflict", "Direction", "Edge", "Estimate", "Estimates", "ExpiryTooLarge", "Fault", "Full", "Funding", "Hop",
-    "Ignored", "Known", "Limit", "Malformed", "Map", "NOBODY", "NOT_ALL_FOUR", "NOT_ASKED", "NoMaximum", "NoMemory",
-    "NoRoute", "Node", "NodeOrder", "NotAnnounced", "NotFilter", "NotGossip", "NotNewer", "NotPublished", "NotQuery",
-    "Nothing", "Open", "PayloadsTooLong", "Point", "Preferences", "Private", "Published", "Reason", "Refused", "Room",
-    "Route", "SPENT", "SelfPayment", "Signature", "TooManyEdges", "TooManyLimits", "UPDATE_1", "UPDATE_2", "Undecided",
-    "UnknownChannel", "UnknownEven", "UnknownNode", "Unrouted", "WRONG", "WrongFunding", "WrongHops", "WrongMessage",
-    "WrongRecordOrder", "WrongRecordType", "WrongSig", "payloads", "short_channel_id"]
+    "ALL_FOUR", "ANNOUNCEMENT", "Board", "Channel", "Direction", "Edge", "Estimate", "Estimates", "Fault", "Hop", "Limit",
+    "Map", "NOBODY", "NOT_ALL_FOUR", "NOT_ASKED", "NoRoute", "Node", "Preferences", "Route", "SPENT", "UPDATE_1", "UPDATE_2",
+    "WRONG", "payloads", "short_channel_id",
+    # Made of include/lgm.h by python3 surface/make.py:
+    "AmountTooLarge", "AmountZero", "Argument", "Banned", "Chain", "Closed", "Conflict", "ExpiryTooLarge", "Full",
+    "Funding", "Ignored", "Known", "Malformed", "NoMaximum", "NoMemory", "NodeOrder", "NotAnnounced", "NotFilter",
+    "NotGossip", "NotNewer", "NotPublished", "NotQuery", "Nothing", "Open", "PayloadsTooLong", "Point", "Private",
+    "Published", "Reason", "Refused", "Room", "SelfPayment", "Signature", "TooManyEdges", "TooManyLimits", "Undecided",
+    "UnknownChannel", "UnknownEven", "UnknownNode", "Unrouted", "WrongFunding", "WrongHops", "WrongMessage",
+    "WrongRecordOrder", "WrongRecordType", "WrongSig",
+    # The end of what is made.
+]

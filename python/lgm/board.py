@@ -6,8 +6,8 @@ import threading
 from types import TracebackType
 from typing import Optional, Tuple, Type
 
-from .faults import Closed
 from .map import Map
+from .numbered import Closed
 
 
 class Board:

@@ -5,10 +5,10 @@ from __future__ import annotations
 import sys
 from typing import Any, Callable, Iterator, List, Tuple
 
-from . import library
 from .faults import check
 from .handle import Handle, alone
 from .library import ESTIMATE, Buffer, Octets, number, octets
+from .numbered import Nothing
 from .records import Estimate
 
 Entry = Tuple[int, bytes, Estimate]
@@ -57,7 +57,7 @@ class Estimates(Handle):
     def forget(self, scid: int, start: Octets) -> bool:
         """Forgets what is known of an edge, and returns whether something was."""
         found = self._call(self._library.lgm_estimates_forget, scid, start)
-        if found == library.NONE:
+        if found == Nothing.number:
             return False
         check(found)
         return True

@@ -8,7 +8,7 @@ from types import TracebackType
 from typing import Any, Callable, ClassVar, Optional, Type, TypeVar, cast
 
 from . import library
-from .faults import Closed
+from .numbered import Closed
 
 Method = TypeVar("Method", bound=Callable[..., Any])
 Kind = TypeVar("Kind", bound="Handle")
@@ -33,7 +33,7 @@ class Handle:
     def _set_up(self) -> None:
         """Sets a closed handle, with the lock of its calls."""
         self._lock = threading.Lock()
-        self._handle = library.Buffer(library.SIZE_OF_HANDLE)
+        self._handle = library.Buffer(library.MAP.size)  # as any other handle
         self._at = self._handle.at
         self._is_closed = False
         self._library = library.load()

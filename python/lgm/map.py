@@ -6,14 +6,16 @@ import ctypes
 import os
 import sys
 from contextlib import nullcontext
+from functools import partial
 from typing import Any, Callable, ContextManager, Iterable, Iterator, List, Optional, Tuple, Union
 
 from . import library
 from .estimates import Estimates
-from .faults import NoRoute, Reason, check, check_message
+from .faults import NoRoute, check, check_message
 from .handle import Handle, alone
 from .library import Buffer, Octets, number, octets
-from .packing import (NOBODY, NOT_ASKED, direction, funded, lent, packed_all, packed_edge, packed_limit, packed_search,
+from .numbered import Nothing, Reason, Room
+from .packing import (NOBODY, NOT_ASKED, direction, funded, lent, packed_all, packed_edge, packed_limit, search_members,
                       signed)
 from .records import Channel, Edge, Hop, Limit, Node, Preferences, Route
 
@@ -22,6 +24,8 @@ ANNOUNCEMENT, UPDATE_1, UPDATE_2 = range(3)
 
 # The length of a buffer that is kept from call to call; a longer one is given back.
 KEPT = 1 << 20
+
+REASONS = {reason.value: reason for reason in Reason}
 
 
 class Map(Handle):
@@ -48,8 +52,8 @@ class Map(Handle):
         self._needed_at = ctypes.addressof(self._needed)
         self._hops = Buffer(library.MOST_HOPS * library.HOP.size)
         self._payloads = Buffer(library.MOST_PAYLOADS)
-        self._struct = Buffer(max(library.LENGTHS.size, library.CHANNEL_LEN, library.NODE.size))
-        self._nothing_known = Buffer(library.SIZE_OF_HANDLE)  # a closed handle of estimates
+        self._struct = Buffer(max(library.LENGTHS.size, library.CHANNEL.size, library.NODE.size))
+        self._nothing_known = Buffer(library.ESTIMATES.size)  # a closed handle of estimates
         self._offer = self._library.lgm_offer
         self._version = 0
 
@@ -111,9 +115,8 @@ class Map(Handle):
         Then the route may not be the best one (`is_best`). Without one so far this raises `Undecided`: that says nothing about
         the payment. While it runs, other calls of the estimates wait; closed ones know nothing.
 
-        Without a route it raises `NoRoute`, whose `reason` a further search finds: None if that ran out of labels, steps or
-        memory."""
-        payment = library.PAYMENT.pack(
+        Without a route it raises `NoRoute`, whose `reason` is found by further searches once it is asked for."""
+        payment = (
             number("amount_msat", amount_msat, 2**64), number("expiry", expiry, 2**32),
             octets("a point", payer, 33), octets("a point", payee, 33), octets("a secret", secret, 32))
         points = [octets("a silent node", point, 33) for point in silent]
@@ -124,12 +127,13 @@ class Map(Handle):
         for packed, count in (packed_all("edges", Edge, edges, packed_edge), packed_all("limits", Limit, limits, packed_limit),
                               (b"".join(points), len(points))):
             lists += [lent(packed, held), count]
-        search = packed_search(preferences, most_delay, most_hops, most_labels, most_steps)
-        return self._route(payment + library.LISTS.pack(*lists) + search, estimates)
+        search = search_members(preferences, most_delay, most_hops, most_labels, most_steps)
+        return self._route(library.ATTEMPT.pack(*payment, *lists, *search), held, estimates)
 
     @alone
-    def _route(self, attempt: bytes, estimates: Optional[Estimates]) -> Route:
-        """The route that a call writes. Whoever takes the locks of a map and of estimates takes the map's first."""
+    def _route(self, attempt: bytes, held: List[Any], estimates: Optional[Estimates]) -> Route:
+        """The route that a call writes, for an attempt with the addresses of lists that are held. Whoever takes the locks of a
+        map and of estimates takes the map's first."""
         lock: ContextManager[Any] = nullcontext()
         known = self._nothing_known.at
         if estimates is not None:
@@ -138,15 +142,15 @@ class Map(Handle):
             outcome = self._library.lgm_attempt_route(self._at, attempt, known, self._hops.at, library.MOST_HOPS,
                                                       self._payloads.at, library.MOST_PAYLOADS, self._struct.at)
         if outcome == NoRoute.number:
-            raise NoRoute(self._reason(attempt))
+            raise NoRoute(find=partial(self._reason, attempt, held))
         if outcome != library.SO_FAR:
             check(outcome)
         return self._written_route(is_best=outcome != library.SO_FAR)
 
-    def _reason(self, attempt: bytes) -> Optional[Reason]:
-        """Why there is no route, if that is found."""
-        outcome = self._library.lgm_no_route_reason(self._at, attempt)
-        return Reason(outcome) if library.FIRST_REASON <= outcome <= library.LAST_REASON else None
+    def _reason(self, attempt: bytes, _held: List[Any]) -> Optional[Reason]:
+        """Why the map has no route for an attempt now, whose lists are held, if that is found: of a closed map it isn't."""
+        with self._lock:
+            return REASONS.get(self._library.lgm_no_route_reason(self._at, attempt))
 
     def _written_route(self, is_best: bool) -> Route:
         """The route in the buffers."""
@@ -215,9 +219,9 @@ class Map(Handle):
     def channel(self, scid: int) -> Channel:
         """What the map has of a channel."""
         check(self._library.lgm_channel(self._at, number("an id", scid, 2**64), self._struct.at))
-        written, at = self._struct.bytes, library.CHANNEL.size
-        capacity_sat, node_1, node_2 = library.CHANNEL.unpack_from(written)
-        return Channel(capacity_sat, node_1, node_2, direction(written, at), direction(written, at + library.DIRECTION.size))
+        capacity_sat, node_1, node_2, *terms = library.CHANNEL.unpack_from(self._struct.bytes)
+        half = len(terms) // 2  # of each direction
+        return Channel(capacity_sat, node_1, node_2, direction(*terms[:half]), direction(*terms[half:]))
 
     @alone
     def node(self, point: Octets) -> Node:
@@ -256,7 +260,7 @@ class Map(Handle):
         while True:
             with self._lock:
                 outcome = call(self._at, is_first, key.at)
-            if outcome == library.NONE:
+            if outcome == Nothing.number:
                 return
             check(outcome)
             yield key.front(length)
@@ -265,7 +269,7 @@ class Map(Handle):
     def _written(self, call: Callable[..., Any], *arguments: Any, message: bytes = b"") -> bytes:
         """The bytes that a call writes, to a buffer that grows if it is too short. One that was large is given back."""
         outcome = call(self._at, *arguments, self._room.at, self._room.length, self._needed_at)
-        if outcome == library.ROOM:
+        if outcome == Room.number:
             self._room = Buffer(2 * self._needed.value)
             outcome = call(self._at, *arguments, self._room.at, self._room.length, self._needed_at)
         check_message(outcome, message)

@@ -11,13 +11,11 @@ from .records import Direction, Edge, Limit, Preferences
 
 # The verdicts on signatures, beside a point (`bytes`): the one whose signature a message has.
 ALL_FOUR, NOT_ALL_FOUR, NOBODY = "all", "not-all", "nobody"
-BY = 2
-SIGS = {ALL_FOUR: 0, NOT_ALL_FOUR: 1, NOBODY: 3}
+SIGS = {ALL_FOUR: library.SIG_ALL_FOUR, NOT_ALL_FOUR: library.SIG_NOT_ALL_FOUR, NOBODY: library.SIG_NOBODY}
 
 # The verdicts on a funding output, beside a number: the satoshi of one that is unspent and right.
 NOT_ASKED, SPENT, WRONG = "-", "spent", "wrong"
-UNSPENT = 1
-FUNDINGS = {NOT_ASKED: 0, SPENT: 2, WRONG: 3}
+FUNDINGS = {NOT_ASKED: library.FUNDING_NOT_ASKED, SPENT: library.FUNDING_SPENT, WRONG: library.FUNDING_WRONG}
 
 NO_POINT = bytes(33)
 
@@ -27,7 +25,7 @@ Record = TypeVar("Record")
 def signed(sig: Union[str, Octets]) -> Tuple[int, bytes]:
     """A verdict on signatures: its number, and the signer."""
     if not isinstance(sig, str):
-        return BY, octets("a point", sig, 33)
+        return library.SIG_BY, octets("a point", sig, 33)
     if sig not in SIGS:
         raise ValueError(f"sig is ALL_FOUR, NOT_ALL_FOUR, NOBODY or a point in bytes, and not {sig!r:.80}")
     return SIGS[sig], NO_POINT
@@ -36,7 +34,7 @@ def signed(sig: Union[str, Octets]) -> Tuple[int, bytes]:
 def funded(funding: Union[str, int]) -> Tuple[int, int]:
     """A verdict on a funding output: its number, and the satoshi."""
     if not isinstance(funding, str):
-        return UNSPENT, number("funding in satoshi", funding, 2**64)
+        return library.FUNDING_UNSPENT, number("funding in satoshi", funding, 2**64)
     if funding not in FUNDINGS:
         raise ValueError(f"funding is NOT_ASKED, SPENT, WRONG or a number of satoshi, and not {funding!r:.80}")
     return FUNDINGS[funding], 0
@@ -78,19 +76,18 @@ def limited(name: str, value: Optional[int], most: int) -> int:
     return 0 if value is None else number(name, value, most + 1, least=1)
 
 
-def packed_search(preferences: Optional[Preferences], most_delay: Optional[int], most_hops: Optional[int],
-                  most_labels: Optional[int], most_steps: Optional[int]) -> bytes:
-    """What a payer prefers, and limits."""
+def search_members(preferences: Optional[Preferences], most_delay: Optional[int], most_hops: Optional[int],
+                   most_labels: Optional[int], most_steps: Optional[int]) -> Tuple[int, ...]:
+    """What a payer prefers, and limits, as the members of a search."""
     preferences = Preferences() if preferences is None else preferences
     if not isinstance(preferences, Preferences):
         raise TypeError(f"preferences are of the class Preferences, and not {type(preferences).__name__}")
-    return library.SEARCH.pack(
+    return (
         limited("most_steps", most_steps, 2**64 - 1), limited("most_labels", most_labels, library.MOST_SIZE),
         number("failure_msat", preferences.failure_msat, 2**32), number("hop_msat", preferences.hop_msat, 2**32),
         limited("most_delay", most_delay, 2**16 - 1), limited("most_hops", most_hops, library.MOST_HOPS))
 
 
-def direction(buffer: Any, at: int) -> Optional[Direction]:
+def direction(is_held: bool, *terms: int) -> Optional[Direction]:
     """The terms that C wrote of a channel's direction, if the map has some."""
-    is_held, *terms = library.DIRECTION.unpack_from(buffer, at)
     return Direction(*terms) if is_held else None

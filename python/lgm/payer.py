@@ -24,9 +24,10 @@ from typing import Collection, Dict, Iterator, List, Mapping, Optional, Sequence
 
 from .arrival import payloads
 from .estimates import Estimates
-from .faults import NoRoute, UnknownChannel
+from .faults import NoRoute
 from .library import Octets
 from .map import Map
+from .numbered import UnknownChannel
 from .records import Direction, Edge, Estimate, Hop, Limit, Preferences, Route
 
 # An edge: its id and the node that it leaves.

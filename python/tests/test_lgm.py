@@ -8,6 +8,7 @@ examples/test_embedding.py tests the rest, with the library.
 
 import copy
 import ctypes
+import gc
 import os
 import pickle
 import sys
@@ -18,6 +19,7 @@ from pathlib import Path
 sys.dont_write_bytecode = True  # the repository gets no made files
 
 import lgm
+from lgm import payer
 
 CHAIN, POINT, SECRET = bytes(32), b"\2" + bytes(32), bytes(32)
 PAYMENT = {"payer": POINT, "payee": POINT, "amount_msat": 1, "expiry": 1, "secret": SECRET}
@@ -38,7 +40,7 @@ class Stub:
 
     def lgm_attempt_route(self, _, attempt, *arguments):
         """Keeps what the lists of an attempt have, which last as long as the call, and the search."""
-        lists = lgm.library.LISTS.unpack_from(attempt, lgm.library.PAYMENT.size)
+        lists = lgm.library.ATTEMPT.unpack(attempt)[5:11]
         sizes = lgm.library.EDGE.size, lgm.library.LIMIT.size, 33
         found = [ctypes.string_at(place, count * size) for place, count, size in zip(lists[::2], lists[1::2], sizes)]
         assert len(attempt) == 192
@@ -220,12 +222,17 @@ class Answering(Stub):
     def __init__(self, number):
         super().__init__()
         self.number, self.estimates, self.is_taken, self.reason = number, None, None, 0
+        self.tries, self.asked = 0, []
 
     def lgm_attempt_route(self, *_):
-        self.is_taken = self.estimates._lock.locked()
+        self.tries += 1
+        self.is_taken = self.estimates is not None and self.estimates._lock.locked()
         return self.number
 
-    def lgm_no_route_reason(self, *_):
+    def lgm_no_route_reason(self, _, attempt):
+        """Keeps the limits that an attempt has now."""
+        place, count = lgm.library.ATTEMPT.unpack(attempt)[7:9]
+        self.asked.append(ctypes.string_at(place, count * lgm.library.LIMIT.size))
         return self.reason
 
 
@@ -242,15 +249,46 @@ def routes_tell_whether_they_are_the_best():
     library.number = 26
     assert fault(network.route, **PAYMENT, estimates=library.estimates) is lgm.Undecided
     assert not library.estimates._lock.locked() and not network._lock.locked()
-    library.number = 25
-    for library.reason, reason, text in ((44, lgm.Reason.PAYEE_LACKS_AMOUNT, "no-route: payee-lacks-amount"),
-                                         (48, lgm.Reason.BEYOND_BOTH, "no-route: beyond-both"), (26, None, "no-route"),
-                                         (102, None, "no-route"), (0, None, "no-route")):
-        try:
-            network.route(**PAYMENT)
-        except lgm.NoRoute as why:
-            assert (why.reason, str(why)) == (reason, text)
     assert lgm.Route(()) == lgm.Route((), True) != lgm.Route((), False)
+
+
+def without_route(network, **known):
+    """What a payment without a route raises."""
+    try:
+        network.route(**PAYMENT, **known)
+    except lgm.NoRoute as why:
+        return why
+    assert False
+
+
+def reasons_are_found_when_they_are_asked_for():
+    """Once, for the reason or for the text, with the lists of the payment, which last until then."""
+    library = Answering(25)
+    lgm.library.load = lambda: library
+    network = lgm.Map(CHAIN)
+    for number, reason, text in ((44, lgm.Reason.PAYEE_LACKS_AMOUNT, "no-route: payee-lacks-amount"),
+                                 (48, lgm.Reason.BEYOND_BOTH, "no-route: beyond-both"), (26, None, "no-route"),
+                                 (102, None, "no-route"), (100, None, "no-route"), (0, None, "no-route")):
+        for shown, wanted in ((str, text), (lambda why: why.reason, reason)):
+            library.asked, library.reason = [], 41
+            why = without_route(network, limits=iter([lgm.Limit(number, POINT, 7)]))
+            gc.collect()
+            assert library.asked == []
+            library.reason = number
+            assert (shown(why), why.reason, str(why)) == (wanted, reason, text)
+            assert [lgm.library.LIMIT.unpack(limits) for limits in library.asked] == [(number, 7, POINT)]
+    assert str(lgm.NoRoute()) == "no-route" and str(lgm.NoRoute(lgm.Reason.BEYOND_BOTH)) == "no-route: beyond-both"
+
+
+def a_payer_asks_for_no_reason():
+    """It divides an amount, or gives up, by the fault alone."""
+    library = Answering(25)
+    lgm.library.load = lambda: library
+    with lgm.Map(CHAIN) as network, payer.Payer(POINT) as one:
+        bounds = payer.Bounds(most_fee_msat=1_000, least_part_msat=1_000)
+        payment = one.pay(payer.Invoice(b"\3" + bytes(32), 4_000, SECRET, basic_mpp=True), bounds)
+        assert fault(payment.next_part, network, 1) is lgm.NoRoute
+    assert library.tries == 3 and library.asked == []  # of 4,000, 2,000 and 1,000 msat
 
 
 def what_is_believed_is_packed(library, estimates):
@@ -346,7 +384,7 @@ def the_library_is_found_in_order():
     library, named = lgm.library, os.environ.pop("LGM_LIBRARY", None)
     with tempfile.TemporaryDirectory() as folder:
         kept, library.PLACES = library.PLACES, (Path(folder, "first"), Path(folder, "second"))
-        assert library.place() == "liblgm.so.4"
+        assert library.place() == f"liblgm.so.{library.VERSION}"
         for place in reversed(library.PLACES):
             place.touch()
             assert library.place() == str(place)
@@ -358,9 +396,12 @@ def the_library_is_found_in_order():
 
 
 def each_fault_has_a_name():
-    """Each class of a fault is a name of the package, and so is all that it says it exports."""
+    """Each class of a fault is a name of the package, and so is all that it says it exports. Each number has a class or is a
+    reason, with its word, but for those of a first fault and of success."""
     assert {kind.__name__ for kind in lgm.faults.FAULTS.values()} <= {*lgm.__all__}
     assert all(hasattr(lgm, name) for name in lgm.__all__)
+    words = {number: word for number, word in lgm.library.WORDS.items() if number not in (0, 27, *range(51, 62))}
+    assert words == {number: kind.word for number, kind in (*lgm.faults.FAULTS.items(), *((one, one) for one in lgm.Reason))}
 
 
 def main():
@@ -386,8 +427,10 @@ def main():
     each_fault_has_a_name()
     large_buffers_are_given_back()
     routes_tell_whether_they_are_the_best()
+    reasons_are_found_when_they_are_asked_for()
+    a_payer_asks_for_no_reason()
     a_closed_handle_is_refused()
-    print(f"{len(refusing) + 14} passed")
+    print(f"{len(refusing) + 16} passed")
 
 
 if __name__ == "__main__":

@@ -6,8 +6,8 @@ import time
 from ctypes import addressof, create_string_buffer
 
 from calls import (
-    A, B, HOP, LENGTHS, NUMBER, PAYLOAD, PAYMENT, SECRET, Hop, at, closed, free, library, opened, paid, published, test)
-from lgm.library import EDGE, LIMIT, LISTS, MOST_HOPS, MOST_PAYLOADS, SEARCH
+    A, B, HOP, LENGTHS, NUMBER, PAYLOAD, SECRET, Hop, at, closed, free, library, opened, paid, published, test)
+from lgm.library import ATTEMPT, EDGE, LIMIT, MOST_HOPS, MOST_PAYLOADS
 
 C, D = b"\4" * 33, b"\5" * 33
 DIRECT = 0, 1, NUMBER, 10_000, 700_000  # the answer over the channel of the map alone
@@ -30,7 +30,7 @@ def limit(scid, start, most_msat):
 
 def search(failure_msat=0, hop_msat=0, most_delay=0, most_hops=0, most_labels=0, most_steps=0):
     """What a payer prefers, and limits."""
-    return SEARCH.pack(most_steps, most_labels, failure_msat, hop_msat, most_delay, most_hops)
+    return most_steps, most_labels, failure_msat, hop_msat, most_delay, most_hops
 
 
 PLAIN = search()  # zeros
@@ -44,7 +44,7 @@ def attempt(payee, amount_msat=10_000, edges=b"", limits=b"", silent=b"", asked=
     held = [create_string_buffer(value, max(len(value), 1)) for value in (edges, limits, silent)]
     counts = len(edges) // EDGE.size, len(limits) // LIMIT.size, len(silent) // 33
     lists = (part for value, count in zip(held, counts) for part in (addressof(value), count))
-    return PAYMENT.pack(amount_msat, 700_000, A, payee, SECRET) + LISTS.pack(*lists) + asked, held
+    return ATTEMPT.pack(amount_msat, 700_000, A, payee, SECRET, *lists, *asked), held
 
 
 def route_over(handle, payee, estimates=None, hops_len=MOST_HOPS, payloads_len=MOST_PAYLOADS, **beside):

@@ -14,7 +14,7 @@ sys.path[1:1] = [str(TOP), str(TOP / "python")]
 from gossip.messages import (  # noqa: E402
     CHAIN, HAS_MAXIMUM, ChannelAnnouncement, ChannelUpdate, NodeAnnouncement, gossip_timestamp_filter,
     query_channel_range, short_channel_id)
-from lgm.library import CHANNEL, CHANNEL_LEN, DIRECTION, HOP, LENGTHS, NODE, PAYMENT, SIZE_OF_HANDLE, load  # noqa: E402
+from lgm.library import CHANNEL, HOP, LENGTHS, MAP, NODE, PAYMENT, load  # noqa: E402
 
 A, B = b"\2" * 33, b"\3" * 33
 SCID = short_channel_id(600_000, 1, 0)
@@ -61,7 +61,7 @@ def at(room):
 
 def closed():
     """A handle of no map."""
-    return create_string_buffer(SIZE_OF_HANDLE)
+    return create_string_buffer(MAP.size)
 
 
 def opened_empty():
@@ -135,10 +135,11 @@ def news(handle, message, room):
 
 def found_channel(handle, scid):
     """What is found of a channel: the number, and the channel over sevens."""
-    channel = bytearray(b"\7" * CHANNEL_LEN)
+    channel = bytearray(b"\7" * CHANNEL.size)
     number = library.lgm_channel(handle, scid, at(channel))
-    terms = (Direction(*DIRECTION.unpack_from(channel, CHANNEL.size + place)) for place in (0, DIRECTION.size))
-    return number, Channel(*CHANNEL.unpack_from(channel), *terms)
+    capacity_sat, node_1, node_2, *terms = CHANNEL.unpack(channel)
+    half = len(terms) // 2
+    return number, Channel(capacity_sat, node_1, node_2, Direction(*terms[:half]), Direction(*terms[half:]))
 
 
 def found_node(handle, addresses):

@@ -5,6 +5,7 @@ memory. The numbers and lengths are worked out by hand, from BOLT 7, BOLT 4 and 
 from calls import (
     A, ANNOUNCEMENT, B, CHAIN, FILTER, FOREIGN_FILTER, NODE_OF_A, NUMBER, PAYLOAD, RANGE, SEED, UPDATE, at, closed,
     filtered, found_channel, found_node, free, library, news, offered, opened, paid, queried, test)
+from lgm.library import VERSION, WORD_LEN, WORDS
 
 
 @test
@@ -107,24 +108,18 @@ def lookups():
 
 def word_of(number):
     """What is written of a number, over ones."""
-    word = bytearray(b"\1" * 24)
+    word = bytearray(b"\1" * WORD_LEN)
     library.lgm_word(number, at(word))
     return word
 
 
 @test
 def words():
-    """A number has its word, with zeros behind it, or none; and the version is 4."""
-    assert word_of(0) == b"accepted\0\0\0\0\0\0\0\0\0\0\0\0\0\0\0\0"
-    assert word_of(26) == b"undecided\0\0\0\0\0\0\0\0\0\0\0\0\0\0\0"
-    assert word_of(27) == b"so-far\0\0\0\0\0\0\0\0\0\0\0\0\0\0\0\0\0\0"
-    assert word_of(106) == b"published\0\0\0\0\0\0\0\0\0\0\0\0\0\0\0"
-    for number, word in ((41, b"payer-has-no-channel"), (48, b"beyond-both"), (53, b"cut"), (61, b"flags"),
-                         (113, b"limits: at most 300,000"), (120, b"which: 0, 1 or 2")):
-        assert word_of(number) == word.ljust(24, b"\0")
-    for number in (17, 40, 49, 50, 62, 103, 109, 121):
-        assert word_of(number) == bytes(24)
-    assert library.lgm_version() == 4
+    """Each number has the word that the header's lgm_text has, with zeros behind it, or none; the version is the header's."""
+    assert WORDS[0] == "accepted" and WORDS[120] == "which: 0, 1 or 2"
+    for number in (*range(1_000), 2**32 - 1):
+        assert word_of(number) == WORDS.get(number, "").encode().ljust(WORD_LEN, b"\0"), number
+    assert library.lgm_version() == VERSION
 
 
 def first_fault(message):

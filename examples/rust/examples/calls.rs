@@ -3,7 +3,7 @@
 //!     LGM_LIBRARY_DIR=$PWD/../out cargo run --offline --example calls
 
 use lgm::{Arrival, Channel, Direction, Edge, Estimate, Estimates, Fault, Found, Funding, Hop, Limit, Map, Node, Overlay};
-use lgm::{Payment, Record, Search, Sig, Which, first_fault, write_payloads};
+use lgm::{Kind, Payment, Record, Search, Sig, Which, first_fault, write_payloads};
 use std::num::{NonZeroU8, NonZeroU16, NonZeroU64, NonZeroUsize};
 
 const CHAIN: [u8; 32] = [0xc1; 32];
@@ -243,6 +243,10 @@ fn estimates() -> Result<(), Fault> {
 
 fn main() -> Result<(), Fault> {
     assert_eq!(lgm::library_version(), lgm::LIBRARY_VERSION);
+    for number in 0..=255 {
+        assert_eq!(Fault(number).text(), Fault(number).word());
+    }
+    assert_eq!((Fault::NOT_NEWER.kind(), Fault(0).kind()), (Some(Kind::Refused), None));
     lists()?;
     lookups()?;
     published_maps()?;

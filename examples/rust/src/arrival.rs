@@ -1,5 +1,6 @@
 //! Payloads for what a payee gets beside the route.
 
+use crate::numbers::MOST_PAYLOADS;
 use crate::{Fault, Hop, check, raw};
 
 /// A custom record of the payee's payload: its type, and its value.
@@ -39,8 +40,8 @@ pub fn write_payloads(hops: &mut [Hop], arrival: &Arrival) -> Result<(), Fault> 
         secret: arrival.secret,
     };
     let mut made: Vec<_> = hops.iter().map(raw_hop).collect();
-    let mut payloads = [0; 1300];
-    let mut lengths = raw::Lengths::default();
+    let mut payloads = [0; MOST_PAYLOADS];
+    let mut lengths = raw::Lengths::ZEROS;
     let (room, len) = (made.as_mut_ptr(), made.len());
     let (bytes, bytes_len) = (payloads.as_mut_ptr(), payloads.len());
     // SAFETY: references, and the lengths of all lists and buffers, which live as long as the call.
@@ -55,7 +56,7 @@ pub fn write_payloads(hops: &mut [Hop], arrival: &Arrival) -> Result<(), Fault> 
 }
 
 fn raw_record(record: &Record) -> raw::Record {
-    raw::Record { kind: record.kind, value: record.value.as_ptr(), value_len: record.value.len() }
+    raw::Record { r#type: record.kind, value: record.value.as_ptr(), value_len: record.value.len() }
 }
 
 fn raw_hop(hop: &Hop) -> raw::Hop {
@@ -64,7 +65,7 @@ fn raw_hop(hop: &Hop) -> raw::Hop {
         amount_msat: hop.amount_msat,
         payload_len: 0,
         expiry: hop.expiry,
-        from: raw::Point(hop.from),
-        to: raw::Point(hop.to),
+        from: hop.from,
+        to: hop.to,
     }
 }

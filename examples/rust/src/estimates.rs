@@ -4,6 +4,13 @@ use crate::raw::{self, Estimate};
 use crate::{Fault, Point, check};
 use std::sync::{Mutex, MutexGuard, PoisonError};
 
+/// Nothing is known of an edge.
+impl Default for Estimate {
+    fn default() -> Estimate {
+        Estimate { most_msat: u64::MAX, ..Estimate::ZEROS }
+    }
+}
+
 /// What a payer has learnt of edges, mostly from its tries to pay. An edge is named by its id and the node that it leaves,
 /// and needn't be in a map. The calls that read lock it for one another.
 #[derive(Debug)]
@@ -14,7 +21,7 @@ pub struct Estimates {
 impl Estimates {
     /// Nothing is known.
     pub fn new() -> Result<Estimates, Fault> {
-        let mut handle = raw::Handle::closed();
+        let mut handle = raw::Handle::ZEROS;
         // SAFETY: a closed handle.
         check(unsafe { raw::lgm_estimates_open(&mut handle) })?;
         Ok(Estimates { handle: Mutex::new(handle) })

@@ -7,7 +7,9 @@
 mod arrival;
 mod estimates;
 mod lookups;
+pub mod numbers;
 mod raw;
+mod version;
 
 use std::fmt;
 use std::num::{NonZeroU8, NonZeroU16, NonZeroU64, NonZeroUsize};
@@ -16,13 +18,14 @@ use std::sync::{Mutex, MutexGuard, PoisonError};
 pub use arrival::{Arrival, Record, write_payloads};
 pub use estimates::Estimates;
 pub use lookups::{Channel, Direction, Node, Which};
+pub use numbers::Kind;
 pub use raw::{Edge, Estimate, Limit};
+pub use version::LIBRARY_VERSION;
+
+use numbers::{MOST_HOPS, MOST_PAYLOADS, SO_FAR, WORD_LEN};
 
 /// A compressed public key.
 pub type Point = [u8; 33];
-
-/// The version of the library that this crate is for, as its header has it.
-pub const LIBRARY_VERSION: u32 = 4;
 
 /// The version of the library that is linked.
 pub fn library_version() -> u32 {
@@ -30,21 +33,15 @@ pub fn library_version() -> u32 {
     unsafe { raw::lgm_version() }
 }
 
-/// Why a call failed, by its number (`include/lgm.h`). The map is unchanged, or the estimates.
+/// Why a call failed, by its number (`include/lgm.h`), which is one of these constants. The map is unchanged, or the estimates.
 #[derive(Clone, Copy, Debug, PartialEq, Eq)]
 pub struct Fault(pub u32);
 
 impl Fault {
-    /// A buffer was too short.
-    const ROOM: Fault = Fault(104);
-
-    /// There is none.
-    const NONE: Fault = Fault(107);
-
-    /// Its word, such as `not-newer`.
+    /// Its word, such as `not-newer`, as the library has it.
     pub fn word(self) -> String {
-        let mut word = [0; 24];
-        // SAFETY: the word has 24 bytes.
+        let mut word = [0; WORD_LEN];
+        // SAFETY: the word has its length.
         unsafe { raw::lgm_word(self.0, &mut word) };
         word.iter().take_while(|byte| **byte != 0).map(|byte| char::from(*byte)).collect()
     }
@@ -221,16 +218,16 @@ impl Map {
     /// Offers a gossip message, with the verdicts on it.
     pub fn offer(&mut self, message: &[u8], sig: Sig, funding: Funding) -> Result<(), Fault> {
         let (sig, signer) = match sig {
-            Sig::AllFour(true) => (0, [0; 33]),
-            Sig::AllFour(false) => (1, [0; 33]),
-            Sig::By(point) => (2, point),
-            Sig::Nobody => (3, [0; 33]),
+            Sig::AllFour(true) => (numbers::SIG_ALL_FOUR, [0; 33]),
+            Sig::AllFour(false) => (numbers::SIG_NOT_ALL_FOUR, [0; 33]),
+            Sig::By(point) => (numbers::SIG_BY, point),
+            Sig::Nobody => (numbers::SIG_NOBODY, [0; 33]),
         };
         let (funding, sat) = match funding {
-            Funding::NotAsked => (0, 0),
-            Funding::Unspent(sat) => (1, sat),
-            Funding::Spent => (2, 0),
-            Funding::Wrong => (3, 0),
+            Funding::NotAsked => (numbers::FUNDING_NOT_ASKED, 0),
+            Funding::Unspent(sat) => (numbers::FUNDING_UNSPENT, sat),
+            Funding::Spent => (numbers::FUNDING_SPENT, 0),
+            Funding::Wrong => (numbers::FUNDING_WRONG, 0),
         };
         let (bytes, len) = (message.as_ptr(), message.len());
         // SAFETY: a handle of this crate, and references.
@@ -297,7 +294,7 @@ impl Map {
     /// The map is locked first, and then the estimates.
     pub fn route_over(&self, payment: &Payment, overlay: &Overlay, search: &Search) -> Result<Found, Fault> {
         let (attempt, mut handle) = (attempt(payment, overlay, search), self.handle());
-        let (mut locked, mut nothing) = (search.estimates.map(Estimates::handle), raw::Handle::closed());
+        let (mut locked, mut nothing) = (search.estimates.map(Estimates::handle), raw::Handle::ZEROS);
         let known = locked.as_deref_mut().unwrap_or(&mut nothing);
         routed(|hops, payloads, lengths| {
             let (room, len) = (hops.as_mut_ptr(), hops.len());
@@ -307,15 +304,14 @@ impl Map {
         })
     }
 
-    /// Why there is no route over what the payer knows beside the map, within limits, as a fault with one of the numbers 41 to
-    /// 48; `None` if there is a route. What the payer prefers and has learnt doesn't matter.
+    /// Why there is no route over what the payer knows beside the map, within limits, as a fault of [`Kind::Reason`]; `None` if
+    /// there is a route. What the payer prefers and has learnt doesn't matter.
     pub fn no_route_reason(&self, payment: &Payment, overlay: &Overlay, search: &Search) -> Result<Option<Fault>, Fault> {
         let attempt = attempt(payment, overlay, search);
         // SAFETY: a handle of this crate, and a reference.
-        match unsafe { raw::lgm_no_route_reason(&mut *self.handle(), &attempt) } {
-            0 => Ok(None),
-            number @ 41..=48 => Ok(Some(Fault(number))),
-            number => Err(Fault(number)),
+        match check(unsafe { raw::lgm_no_route_reason(&mut *self.handle(), &attempt) }) {
+            Err(fault) if fault.kind() == Some(Kind::Reason) => Ok(Some(fault)),
+            outcome => outcome.map(|()| None),
         }
     }
 
@@ -367,6 +363,10 @@ impl Drop for Map {
     }
 }
 
+// SAFETY: what a handle holds is proved to be `Send` (`boxed` of crates/lgm_c makes its box), and a handle is used by one call
+// at a time, since each call borrows it alone.
+unsafe impl Send for raw::Handle {}
+
 /// What threads may do, seen when this is compiled.
 const _: () = {
     const fn is_shared<T: Send + Sync>() {}
@@ -382,7 +382,7 @@ fn attempt(payment: &Payment, overlay: &Overlay, search: &Search) -> raw::Attemp
         edges_len: overlay.edges.len(),
         limits: overlay.limits.as_ptr(),
         limits_len: overlay.limits.len(),
-        silent: overlay.silent.as_ptr(),
+        silent: overlay.silent.as_ptr().cast(),
         silent_len: overlay.silent.len(),
         search: search.raw(),
     }
@@ -396,22 +396,22 @@ pub fn first_fault(message: &[u8]) -> Option<Fault> {
 
 /// A map in a handle that a call opens.
 fn opened(open: impl FnOnce(&mut raw::Handle) -> u32) -> Result<Map, Fault> {
-    let mut handle = raw::Handle::closed();
+    let mut handle = raw::Handle::ZEROS;
     check(open(&mut handle))?;
     Ok(Map { handle: Mutex::new(handle) })
 }
 
 /// The route that a call writes to buffers that are never too short.
 fn routed(call: impl FnOnce(&mut [raw::Hop], &mut [u8], &mut raw::Lengths) -> u32) -> Result<Found, Fault> {
-    let mut hops = [raw::Hop::default(); 20];
-    let mut payloads = [0; 1300];
-    let mut lengths = raw::Lengths::default();
+    let mut hops = [raw::Hop::ZEROS; MOST_HOPS];
+    let mut payloads = [0; MOST_PAYLOADS];
+    let mut lengths = raw::Lengths::ZEROS;
     let number = call(&mut hops, &mut payloads, &mut lengths);
-    if number != raw::SO_FAR {
+    if number != SO_FAR {
         check(number)?;
     }
     let hops = route(&hops[..lengths.hops], &payloads[..lengths.payloads]);
-    Ok(Found { hops, is_best: number != raw::SO_FAR })
+    Ok(Found { hops, is_best: number != SO_FAR })
 }
 
 /// A route from its hops, and their payloads one after the other.
@@ -423,16 +423,19 @@ fn route(hops: &[raw::Hop], mut payloads: &[u8]) -> Vec<Hop> {
             scid: hop.scid,
             amount_msat: hop.amount_msat,
             expiry: hop.expiry,
-            from: hop.from.0,
-            to: hop.to.0,
+            from: hop.from,
+            to: hop.to,
             payload: payload.to_vec(),
         }
     });
     found.collect()
 }
 
+/// A call that writes messages for a peer's message.
+type MessagesCall = unsafe extern "C" fn(*mut raw::Handle, *const u8, usize, *mut u8, usize, *mut usize) -> u32;
+
 /// The messages that a call writes for a peer's message.
-fn messages(handle: &mut raw::Handle, call: raw::MessagesCall, message: &[u8]) -> Result<Vec<Vec<u8>>, Fault> {
+fn messages(handle: &mut raw::Handle, call: MessagesCall, message: &[u8]) -> Result<Vec<Vec<u8>>, Fault> {
     let (bytes, len) = (message.as_ptr(), message.len());
     let written = written(|room, room_len, needed| {
         // SAFETY: a handle of this crate, references, and the lengths of both buffers.

@@ -84,16 +84,19 @@ pub enum Which {
     Update2 = 2,
 }
 
+/// A call that goes through points.
+type NextPointCall = unsafe extern "C" fn(*mut raw::Handle, bool, *mut Point) -> u32;
+
 impl Map {
     /// What the map has of a channel.
     pub fn channel(&self, scid: u64) -> Result<Channel, Fault> {
-        let mut channel = raw::Channel::default();
+        let mut channel = raw::Channel::ZEROS;
         // SAFETY: a handle of this crate, and a reference.
         check(unsafe { raw::lgm_channel(&mut *self.handle(), scid, &mut channel) })?;
         Ok(Channel {
             capacity_sat: channel.capacity_sat,
-            node_1: channel.node_1.0,
-            node_2: channel.node_2.0,
+            node_1: channel.node_1,
+            node_2: channel.node_2,
             from_1: Direction::held(&channel.from_1),
             from_2: Direction::held(&channel.from_2),
         })
@@ -101,7 +104,7 @@ impl Map {
 
     /// What the map has of a node.
     pub fn node(&self, point: &Point) -> Result<Node, Fault> {
-        let mut node = raw::Node::default();
+        let mut node = raw::Node::ZEROS;
         let addresses = written(|room, room_len, needed| {
             // SAFETY: a handle of this crate, references, and the length of the buffer.
             unsafe { raw::lgm_node(&mut *self.handle(), point, &mut node, room, room_len, needed) }
@@ -126,7 +129,7 @@ impl Map {
     }
 
     /// The points that a call goes through.
-    fn points(&self, call: raw::NextPointCall) -> impl Iterator<Item = Point> + '_ {
+    fn points(&self, call: NextPointCall) -> impl Iterator<Item = Point> + '_ {
         // SAFETY: a handle of this crate, and a reference.
         keys([0; 33], move |is_first, point| unsafe { call(&mut *self.handle(), is_first, point) })
     }
