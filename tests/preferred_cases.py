@@ -182,16 +182,26 @@ def step_faults():
     each charges less than the one before, so each label over one dominates the last. There are 13 steps: a comparison for each
     label that is settled, the payee's, that of node 2 and the cheapest one of node 4; four edges into the payee, one into node 2 and
     one into node 4; a comparison for each new label of nodes 2 and 1; and one each for the second and the third label of node 4,
-    with the one before."""
+    with the one before. An edge that no map has is believed to have a penalty: without any, steps don't run out."""
     full = Terms(base=0, millionths=1_000_000)
     roads = [road(1, 0, 1), Road(2, 1, 2, full), Road(3, 2, 5, full), road(4, 0, 4), road(5, 4, 5, 2_700),
              road(6, 4, 5, 2_600), road(7, 4, 5, 2_500)]
-    case = Case("", roads, [4, 7], 3_500, known={(3, 2): Estimate(least=1)}, payment=Payment(0, 5, 1_000))
+    case = Case("", roads, [4, 7], 3_500, known={(9, 9): Estimate(penalty=1)}, payment=Payment(0, 5, 1_000))
     with opened(network_of(roads), None) as network:
         for steps, wanted in ((13, (True, 3_500)), (12, (False, 4_000))):
             route = asked(case, network, most_steps=steps)
             if (route.is_best, route.sent_msat) != wanted:
                 yield f"with {steps} steps {route}"
+
+
+def plain_faults():
+    """What is wrong where one step and one label are all that a search may take, and no edge has a penalty, though something is
+    known of one: then the route that sends least is found whatever it takes."""
+    with opened(network_of(ROW), None) as network:
+        case = Case("", ROW, [1, 2, 3], 1_000, known={(2, 1): Estimate(least=500, most=2_000)}, payment=ALONG)
+        found = asked(case, network, most_steps=1, most_labels=1)
+        if found == "undecided" or not found.is_best:
+            yield f"{found}, and not the best one"
 
 
 def overlay_faults():
@@ -282,6 +292,7 @@ def run():
     tests = {case.sentence: case_faults(case) for case in CASES}
     tests["a budget of one label, and of one step"] = list(budget_faults())
     tests["steps of a search whose labels are dominated"] = list(step_faults())
+    tests["estimates without penalties, and one step"] = list(plain_faults())
     tests["a first walk over an edge beside the map"] = list(overlay_faults())
     tests["which walks of a hostile network fit"] = list(small_faults())
     for links, sides in ((10, 500), (13, 30)):

@@ -19,7 +19,13 @@ const WANTED: [Told; 4] = [
     (91, 3, 10, 1000, 700_000),
 ];
 
-/// With preferences, within a delay.
+/// What the payer prefers.
+const PREFERENCES: Preferences = Preferences {
+    failure_msat: 20_000,
+    hop_msat: 500,
+};
+
+/// The same, within a delay.
 fn preferring(most_delay: u16) -> Asked {
     Asked {
         preferences: PREFERENCES,
