@@ -568,9 +568,9 @@ typedef struct {
  *
  * A search ends before it is certain once it has made `most_labels` labels, or taken `most_steps` steps. Then it writes the
  * best route so far, and returns LGM_SO_FAR, or returns LGM_UNDECIDED if it found none. LGM_NO_ROUTE never comes for want of
- * either. Without preferences and estimates the two come only if the route that sends least of all isn't within the limits of
- * delay and hops: that one is found whatever it takes. With them, and within such limits, up to two searches are made, each
- * with all labels and steps. More of these help, or to exclude edges with large deltas by limits of 0.
+ * either. Without preferences, and without an estimate that has a penalty, the two come only if the route that sends least of
+ * all isn't within the limits of delay and hops: that one is found whatever it takes. Within such limits up to two searches
+ * are made, each with all labels and steps. More of these help, or to exclude edges with large deltas by limits of 0.
  *
  * The map, what is known of edges, and all else that is passed are unchanged. While the call runs, it alone uses the handle
  * of the estimates. With a closed one, and zeros but the payment, it does what lgm_route does, and costs the same.
