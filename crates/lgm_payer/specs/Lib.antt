@@ -1,0 +1,4 @@
+pub mod Endings
+pub mod Parts
+pub mod Payments
+pub mod Overlays

@@ -1,0 +1,104 @@
+//! What failed parts leave.
+
+ghost use Rattle.std.specs.Prelude.{◌≡◌};
+ghost use Rattle.std.specs.Option.{option_copied};
+ghost use Rattle.lgm_payer.specs.Overlays.{is_hinted, is_public, limit_by_kind, silent_by_kind, first_other, limit_left, silenced};
+
+use crate::carried::limit_of;
+use crate::ending::{Ending, FailureKind};
+use crate::part::Part;
+use lgm_gossip::Point;
+use lgm_graph::{ExtraEdge, Hop, Limit};
+
+/// Whether an invoice names the edge of a hop.
+fn is_hinted(hints: &[ExtraEdge], hop: &Hop) -> bool
+    ensures { result ≡ is_hinted hints.now hop.now }
+{
+    hints
+        .iter()
+        .any(|hint| hint.scid == hop.scid && hint.from == hop.from)
+}
+
+/// Whether a hop is none of the payer's own, and the invoice doesn't name it.
+pub(crate) fn is_public(payer: &Point, hints: &[ExtraEdge], hop: &Hop) -> bool
+    ensures { result ≡ is_public payer.now hints.now hop.now }
+{
+    hop.from != *payer && !is_hinted(hints, hop)
+}
+
+/// The limit of a hop that a node didn't take, by what its failure message speaks of.
+fn limit_by_kind(kind: FailureKind, is_public: bool, is_renewed: bool, hop: &Hop) -> Option<Limit>
+    ensures { result ≡ limit_by_kind kind is_public is_renewed hop.now }
+{
+    match kind {
+        FailureKind::Balance => Some(limit_of(hop, hop.amount.saturating_sub(1))),
+        FailureKind::Expiry => None,
+        FailureKind::Channel => Some(limit_of(hop, 0)),
+        FailureKind::Node => {
+            if is_public {
+                None
+            } else {
+                Some(limit_of(hop, 0))
+            }
+        }
+        FailureKind::Terms => {
+            if is_public && is_renewed {
+                None
+            } else {
+                Some(limit_of(hop, 0))
+            }
+        }
+    }
+}
+
+/// The node that a hop leaves, if the failure message speaks of it.
+fn silent_by_kind(kind: FailureKind, is_public: bool, hop: &Hop) -> Option<Point>
+    ensures { result ≡ silent_by_kind kind is_public hop.now }
+{
+    match kind {
+        FailureKind::Node if is_public => Some(hop.from),
+        _ => None,
+    }
+}
+
+/// The first hop that isn't the payer's own, which is the second one, or else the first one.
+fn first_other(route: &[Hop]) -> Option<&Hop>
+    ensures { option_copied result ≡ first_other route.now }
+{
+    match route.get(1) {
+        Some(hop) => Some(hop),
+        None => route.first(),
+    }
+}
+
+/// The limit that a part's end leaves.
+pub(crate) fn limit_left(payer: &Point, hints: &[ExtraEdge], part: &Part) -> Option<Limit>
+    ensures { result ≡ limit_left payer.now hints.now part.now }
+{
+    match part.ending {
+        None | Some(Ending::Arrived) => None,
+        Some(Ending::Lost) => Some(limit_of(first_other(part.route.as_slice())?, 0)),
+        Some(Ending::Failed(failure)) => {
+            let hop = part.route.as_slice().get(failure.place)?;
+            let kind = FailureKind::of(failure.code);
+            limit_by_kind(kind, is_public(payer, hints, hop), failure.is_renewed, hop)
+        }
+    }
+}
+
+/// The node that it silences.
+pub(crate) fn silenced(payer: &Point, hints: &[ExtraEdge], part: &Part) -> Option<Point>
+    ensures { result ≡ silenced payer.now hints.now part.now }
+{
+    match part.ending {
+        Some(Ending::Failed(failure)) => {
+            let hop = part.route.as_slice().get(failure.place)?;
+            silent_by_kind(
+                FailureKind::of(failure.code),
+                is_public(payer, hints, hop),
+                hop,
+            )
+        }
+        _ => None,
+    }
+}

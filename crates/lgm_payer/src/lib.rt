@@ -1,0 +1,19 @@
+//! What to send next for an invoice, in one part or several, by what became of what was sent.
+//!
+//! A [`Payment`] is an invoice, what its payment may take, and the parts that were ever sent for it, each with how it ended.
+#![tactic(auto)]
+
+mod bounds;
+mod carried;
+mod ending;
+mod exclusions;
+mod invoice;
+mod overlays;
+mod part;
+mod payment;
+
+pub use bounds::Bounds;
+pub use ending::{Ending, Failure, FailureKind};
+pub use invoice::Invoice;
+pub use part::Part;
+pub use payment::Payment;

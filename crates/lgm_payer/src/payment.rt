@@ -1,0 +1,235 @@
+//! Payments.
+
+ghost use Rattle.std.specs.Prelude.{◌≡◌, ◌↔◌, ◌≤◌, ◌<◌, ◌+◌, ◌-◌, ◌^◌, [], max, length, sum_by, IsTrue, IfOk, OnOk, OnErr};
+ghost use Rattle.std.specs.Bool.{OnFalse, OnTrue};
+ghost use Rattle.lgm_graph.specs.Route.{sent, expiry};
+ghost use Rattle.lgm_payer.specs.Overlays.{overlay_of};
+ghost use Rattle.lgm_payer.specs.Parts.{held_amount, held_fee, arrived_amount};
+ghost use Rattle.lgm_payer.specs.Payments.{KeepsBounds, IsShare, IsPaid, IsEnded, left, fees, parts_left, pieces, next_amount, part_of, with_sent, most_at_once};
+
+use crate::bounds::Bounds;
+use crate::ending::Ending;
+use crate::invoice::Invoice;
+use crate::overlays::{add_spared, limit_by_capacity, limit_by_failures, silence_by_failures};
+use crate::part::Part;
+use lgm_gossip::Point;
+use lgm_graph::{ExtraEdge, Hop, Overlay, Route};
+use lgm_store::Map;
+use std::alloc::{AllocError, Global};
+use std::marker::Model;
+
+/// The payment of an invoice: all parts that were ever sent for it, each with how it ended.
+#[derive(Drop)]
+pub struct Payment {
+    payer: Point,
+    invoice: Invoice,
+    hints: Vec<ExtraEdge>,
+    bounds: Bounds,
+    most_part: u64,
+    parts: Vec<Part>,
+}
+
+impl Model for Payment {
+    ghost use Rattle.std.specs.Prelude.{◌≤◌};
+    ghost use Rattle.lgm_payer.specs.Payments.{PaymentState, KeepsBounds};
+
+    ghost Value = { PaymentState };
+
+    ghost view = { λ p. record {
+      payer = p.payer;
+      invoice = p.invoice;
+      hints = p.hints.items;
+      bounds = p.bounds;
+      most_part = p.most_part;
+      parts = p.parts.items;
+    } };
+
+    ghost invariant = { λ p. (1 ≤ p.most_part) × KeepsBounds p.invoice p.bounds p.parts.items };
+}
+
+/// What parts count for, in msat.
+fn held_amount(parts: &[Part]) -> u64
+    requires { sum_by held_amount parts.now < 2 ^ 64 }
+    ensures { result ≡ sum_by held_amount parts.now }
+{
+    parts.iter().map(|part| part.held_amount()).sum()
+}
+
+/// Their fees, in msat.
+fn held_fee(parts: &[Part]) -> u64
+    requires { sum_by held_fee parts.now < 2 ^ 64 }
+    ensures { result ≡ sum_by held_fee parts.now }
+{
+    parts.iter().map(|part| part.held_fee()).sum()
+}
+
+/// What of them has arrived, in msat.
+fn arrived_amount(parts: &[Part]) -> u64
+    requires { sum_by arrived_amount parts.now < 2 ^ 64 }
+    ensures { result ≡ sum_by arrived_amount parts.now }
+{
+    parts.iter().map(|part| part.arrived_amount()).sum()
+}
+
+impl Payment {
+    /// A payment of which nothing was sent yet. Allocates nothing.
+    pub fn new(
+        alloc: Global,
+        payer: Point,
+        invoice: Invoice,
+        hints: Vec<ExtraEdge>,
+        bounds: Bounds,
+    ) -> Payment
+        ensures { result ≡ record {
+          payer = payer;
+          invoice = invoice;
+          hints = hints.items;
+          bounds = bounds;
+          most_part = max 1 invoice.amount;
+          parts = [];
+        } }
+    {
+        Payment {
+            payer,
+            invoice,
+            hints,
+            bounds,
+            most_part: invoice.amount.max(1),
+            parts: Vec::new(alloc),
+        }
+    }
+
+    /// The bounds are kept, stated by the contract; the call does nothing.
+    pub fn keeps_bounds(&self)
+        ensures { KeepsBounds self.now.invoice self.now.bounds self.now.parts }
+    {
+        let _count = self.parts.len();
+    }
+
+    /// The parts that were ever sent.
+    pub fn parts(&self) -> &[Part]
+        ensures { result.now ≡ self.now.parts }
+    {
+        self.parts.as_slice()
+    }
+
+    /// What is neither under way nor has arrived, in msat.
+    pub fn left(&self) -> u64
+        ensures exact { result ≡ left self.now }
+        ensures rest { result ≡ self.now.invoice.amount - sum_by held_amount self.now.parts }
+    {
+        self.invoice.amount - held_amount(&self.parts)
+    }
+
+    /// The fees of all parts that are under way or have arrived, in msat.
+    pub fn fees(&self) -> u64
+        ensures exact { result ≡ fees self.now }
+        ensures within { result ≤ self.now.bounds.most_fee }
+    {
+        let _most = self.bounds.most_fee;
+        held_fee(&self.parts)
+    }
+
+    /// Whether all of the amount has arrived.
+    #[tactic(auto, using(crate::proofs::PartLaws::arrived_is_held))]
+    pub fn is_paid(&self) -> bool
+        ensures { IsTrue result ↔ IsPaid self.now }
+    {
+        let amount = self.invoice.amount;
+        arrived_amount(&self.parts) == amount
+    }
+
+    /// How many parts may be under way or have arrived.
+    fn most_at_once(&self) -> usize
+        ensures { result ≡ most_at_once self.now.invoice self.now.bounds }
+    {
+        if self.invoice.basic_mpp {
+            self.bounds.most_parts.max(1)
+        } else {
+            1
+        }
+    }
+
+    /// How many more parts may be under way: at least one while something is left.
+    fn parts_left(&self) -> usize
+        ensures exact { result ≡ parts_left self.now }
+        ensures some { 0 < left self.now → 1 ≤ result }
+    {
+        self.most_at_once() - self.parts.iter().filter(|part| part.is_held()).count()
+    }
+
+    /// How many parts are to carry what is left, where none is to have more than an amount, in msat.
+    fn pieces(&self, most: u64) -> u64
+        requires { 1 ≤ most }
+        ensures exact { result ≡ pieces most self.now }
+        ensures some { 0 < left self.now → 1 ≤ result }
+    {
+        self.left().div_ceil(most).min(self.parts_left() as u64)
+    }
+
+    /// The amount of the next part, in msat, where none is to have more than an amount: what is left, in equal pieces.
+    pub fn next_amount(&self, most: u64) -> u64
+        requires most { 1 ≤ most }
+        requires left { 0 < left self.now }
+        ensures exact { result ≡ next_amount most self.now }
+        ensures share { IsShare self.now result }
+    {
+        self.left().div_ceil(self.pieces(most))
+    }
+
+    /// What it knows beside a map: its payer's channels and its hints, with what is left beside the hops under way, and what
+    /// failed parts leave. The only error is out of memory.
+    pub fn overlay(
+        &self,
+        alloc: Global,
+        map: &Map,
+        own: &[ExtraEdge],
+        busy: &[Hop],
+    ) -> Result<Overlay, AllocError>
+        ensures { IfOk result (λ overlay. overlay ≡ overlay_of self.now map.now own.now busy.now) }
+    {
+        let mut overlay = Overlay::new(alloc);
+        add_spared(&mut overlay, own, busy)?;
+        add_spared(&mut overlay, &self.hints, busy)?;
+        limit_by_capacity(&mut overlay, map, busy)?;
+        limit_by_failures(&mut overlay, &self.payer, &self.hints, &self.parts)?;
+        overlay.silence(self.payer)?;
+        silence_by_failures(&mut overlay, &self.payer, &self.hints, &self.parts)?;
+        Ok(overlay)
+    }
+
+    /// Notes that a part over a route was sent. The only error is out of memory, which changes nothing.
+    pub fn send(
+        &mut self,
+        route: Route,
+        amount: u64,
+        height: u32,
+        most: u64,
+    ) -> Result<(), AllocError>
+        requires most { 1 ≤ most }
+        requires share { IsShare self.old amount }
+        requires tries { length self.old.parts < self.old.bounds.most_tries }
+        requires sends { amount ≤ sent route }
+        requires fee { sent route - amount + fees self.old ≤ self.old.bounds.most_fee }
+        requires in_time { expiry route ≤ height + self.old.bounds.most_blocks }
+        ensures sent { OnOk result (self.new ≡ with_sent most (part_of route amount height) self.old) }
+        ensures stays { OnErr result (self.new ≡ self.old) }
+    {
+        let part = Part::over(route, amount, height);
+        self.parts.push(part)?;
+        self.most_part = most;
+        Ok(())
+    }
+
+    /// The part at a place ended. If it isn't under way, nothing changes, and the result is false.
+    pub fn end(&mut self, place: usize, ending: Ending) -> bool
+        ensures ended { OnTrue result (IsEnded place ending self.old self.new) }
+        ensures stays { OnFalse result (self.new ≡ self.old) }
+    {
+        if self.parts.len() <= place || !self.parts[place].is_under_way() {
+            return false;
+        }
+        self.parts[place].ending = Some(ending);
+        true
+    }
+}
