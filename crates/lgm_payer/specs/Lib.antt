@@ -2,3 +2,4 @@ pub mod Endings
 pub mod Parts
 pub mod Payments
 pub mod Overlays
+pub mod Searches

@@ -1,11 +1,12 @@
 //! What failed parts leave.
 
-ghost use Rattle.std.specs.Prelude.{◌≡◌};
+ghost use Rattle.std.specs.Prelude.{◌≡◌, ◌≤◌, fold};
 ghost use Rattle.std.specs.Option.{option_copied};
 ghost use Rattle.lgm_payer.specs.Overlays.{is_hinted, is_public, limit_by_kind, silent_by_kind, first_other, limit_left, silenced};
+ghost use Rattle.lgm_payer.specs.Searches.{refusal_left, refusal_of, blocks_left, or_fewer};
 
 use crate::carried::limit_of;
-use crate::ending::{Ending, FailureKind};
+use crate::ending::{Ending, FailureKind, MPP_TIMEOUT};
 use crate::part::Part;
 use lgm_gossip::Point;
 use lgm_graph::{ExtraEdge, Hop, Limit};
@@ -101,4 +102,62 @@ pub(crate) fn silenced(payer: &Point, hints: &[ExtraEdge], part: &Part) -> Optio
         }
         _ => None,
     }
+}
+
+/// The failure code that the payee returned, but one that another try may mend.
+pub(crate) fn refusal_left(part: &Part) -> Option<u16>
+    ensures { result ≡ refusal_left part.now }
+{
+    match part.ending {
+        Some(Ending::Failed(failure)) => {
+            let is_payee = part.route.as_slice().len() <= failure.place;
+            if is_payee && failure.code != MPP_TIMEOUT {
+                Some(failure.code)
+            } else {
+                None
+            }
+        }
+        _ => None,
+    }
+}
+
+/// The first refusal of the payee.
+pub(crate) fn refusal_of(parts: &[Part]) -> Option<u16>
+    ensures { result ≡ refusal_of parts.now }
+{
+    let mut refusal = None;
+    for part in parts {
+        refusal = refusal.or(refusal_left(part));
+    }
+    refusal
+}
+
+/// The most blocks that a part's end leaves.
+fn blocks_left(part: &Part) -> u32
+    ensures { result ≡ blocks_left part.now }
+{
+    match part.ending {
+        Some(Ending::Failed(failure)) => {
+            let is_before = failure.place < part.route.as_slice().len();
+            let is_far = matches!(FailureKind::of(failure.code), FailureKind::Expiry);
+            if is_before && is_far {
+                part.blocks.saturating_sub(1)
+            } else {
+                u32::MAX
+            }
+        }
+        _ => u32::MAX,
+    }
+}
+
+/// The most blocks that a bound and parts' ends leave.
+pub(crate) fn fewest_blocks(most: u16, parts: &[Part]) -> u32
+    ensures exact { result ≡ fold or_fewer most parts.now }
+    ensures within { result ≤ most }
+{
+    let mut fewest = u32::from(most);
+    for part in parts {
+        fewest = fewest.min(blocks_left(part));
+    }
+    fewest
 }

@@ -8,12 +8,16 @@ mod carried;
 mod ending;
 mod exclusions;
 mod invoice;
+mod outlook;
 mod overlays;
 mod part;
 mod payment;
+mod unpaid;
 
 pub use bounds::Bounds;
 pub use ending::{Ending, Failure, FailureKind};
 pub use invoice::Invoice;
+pub use outlook::Outlook;
 pub use part::Part;
 pub use payment::Payment;
+pub use unpaid::Unpaid;

@@ -1,22 +1,34 @@
 //! Payments.
 
-ghost use Rattle.std.specs.Prelude.{◌≡◌, ◌↔◌, ◌≤◌, ◌<◌, ◌+◌, ◌-◌, ◌^◌, [], max, length, sum_by, IsTrue, IfOk, OnOk, OnErr};
+ghost use Rattle.std.specs.Prelude.{◌≡◌, ◌↔◌, ◌≤◌, ◌<◌, ◌+◌, ◌-◌, ◌*◌, ◌^◌, [], max, length, sum_by, IsTrue, IsSome, IfOk, OnOk, OnErr};
 ghost use Rattle.std.specs.Bool.{OnFalse, OnTrue};
 ghost use Rattle.lgm_graph.specs.Route.{sent, expiry};
+ghost use Rattle.lgm_graph.specs.Graph.{IsGraphOf};
+ghost use Rattle.lgm_graph.specs.Overlay.{overlaid_edges};
+ghost use Rattle.lgm_route.specs.Preferred.{penalty_at};
 ghost use Rattle.lgm_payer.specs.Overlays.{overlay_of};
+ghost use Rattle.lgm_payer.specs.Searches.{refusal_of, request_of, route_limits, IsAnswerFor};
 ghost use Rattle.lgm_payer.specs.Parts.{held_amount, held_fee, arrived_amount};
 ghost use Rattle.lgm_payer.specs.Payments.{KeepsBounds, IsShare, IsPaid, IsEnded, left, fees, parts_left, pieces, next_amount, part_of, with_sent, most_at_once};
 
 use crate::bounds::Bounds;
 use crate::ending::Ending;
+use crate::exclusions::{fewest_blocks, refusal_of};
 use crate::invoice::Invoice;
+use crate::outlook::Outlook;
 use crate::overlays::{add_spared, limit_by_capacity, limit_by_failures, silence_by_failures};
 use crate::part::Part;
 use lgm_gossip::Point;
-use lgm_graph::{ExtraEdge, Hop, Overlay, Route};
+use lgm_graph::{Estimates, ExtraEdge, Hop, Overlay, Route};
+use lgm_route::{
+    Found, Preferences, Request, RouteFault, RouteLimits, SearchFault, answer_preferred,
+};
 use lgm_store::Map;
 use std::alloc::{AllocError, Global};
 use std::marker::Model;
+
+/// Blocks that may come while a part is under way, so that its expiry isn't too soon for the payee.
+const SPARE_BLOCKS: u32 = 3;
 
 /// The payment of an invoice: all parts that were ever sent for it, each with how it ended.
 #[derive(Drop)]
@@ -196,6 +208,72 @@ impl Payment {
         overlay.silence(self.payer)?;
         silence_by_failures(&mut overlay, &self.payer, &self.hints, &self.parts)?;
         Ok(overlay)
+    }
+
+    /// The first failure code that the payee returned, but `mpp_timeout`, which another try may mend.
+    pub fn refusal(&self) -> Option<u16>
+        ensures { result ≡ refusal_of self.now.parts }
+    {
+        refusal_of(&self.parts)
+    }
+
+    /// What is asked for a part.
+    fn request(&self, amount: u64, height: u32) -> Request
+        ensures { result ≡ request_of self.now amount height }
+    {
+        Request {
+            payer: self.payer,
+            payee: self.invoice.payee,
+            amount,
+            expiry: height.saturating_add(u32::from(self.invoice.final_delta) + SPARE_BLOCKS),
+        }
+    }
+
+    /// The limits of its route.
+    fn route_limits(&self) -> Option<RouteLimits>
+        ensures { result ≡ route_limits self.now }
+    {
+        let most = fewest_blocks(self.bounds.most_blocks, &self.parts);
+        let last = u32::from(self.invoice.final_delta) + SPARE_BLOCKS;
+        if most < last {
+            return None;
+        }
+        Some(RouteLimits {
+            most_delay: Some((most - last) as u16),
+            most_hops: 20,
+        })
+    }
+
+    /// The answer for a part by what its payer prefers and believes.
+    fn answer(
+        &self,
+        alloc: Global,
+        outlook: &Outlook<'_>,
+        overlay: &Overlay,
+        amount: u64,
+        preferences: &Preferences,
+        estimates: &Estimates,
+    ) -> Result<Found, SearchFault>
+        requires beside { IsGraphOf outlook.now.map.now outlook.now.view.now }
+        requires few { length outlook.now.view.now.points + 2 * length overlay.now.extra < 2 ^ 32 }
+        ensures { IsSome (route_limits self.now) → IsAnswerFor (penalty_at preferences.now estimates.now) self.now
+            (overlaid_edges outlook.now.view.now.known outlook.now.map.now overlay.now) outlook.now.height amount result }
+    {
+        let Some(limits) = self.route_limits() else {
+            return Err(SearchFault::Fault(RouteFault::NoRoute));
+        };
+        let request = self.request(amount, outlook.height);
+        answer_preferred(
+            alloc,
+            outlook.map,
+            outlook.view,
+            overlay,
+            preferences,
+            estimates,
+            &request,
+            &limits,
+            &outlook.budget,
+        )
     }
 
     /// Notes that a part over a route was sent. The only error is out of memory, which changes nothing.
