@@ -1,7 +1,8 @@
 -- The search for a payment's next part: what is asked, and what its answer is.
-use Rattle.std.specs.Prelude.{◌≡◌, ◌⊎◌, ℕ, ◌+◌, ◌-◌, ◌^◌, ◌<◌, ◌≤◌, Bool, true, false, not, ◌&&◌, ◌==◌, nat_lt, nat_le, min, List, [], length, fold}
+use Rattle.std.specs.Prelude.{◌≡◌, ◌⊎◌, ℕ, ◌+◌, ◌-◌, ◌^◌, ◌<◌, ◌≤◌, Bool, true, false, not, ◌&&◌, ◌==◌, ◌||◌, nat_lt, nat_le, min, List, [], length, fold}
 use Rattle.std.specs.Prelude.{Option, Some, None, Result, Ok, Err, if◌then◌else◌}
 use Rattle.std.specs.Option.{option_or}
+use Rattle.std.specs.Int.{div_ceil}
 use Rattle.lgm_store.specs.Rows.{Rows}
 use Rattle.lgm_graph.specs.Edges.{PointEdge}
 use Rattle.lgm_graph.specs.Estimates.{Entries}
@@ -14,6 +15,8 @@ use Rattle.lgm_route.specs.declared.limits.RouteLimits.{RouteLimits}
 use Rattle.lgm_route.specs.declared.preferences.Preferences.{Preferences}
 use Rattle.lgm_route.specs.declared.found.Found.{Found}
 use Rattle.lgm_route.specs.declared.found.SearchFault.{SearchFault}
+use Rattle.lgm_route.specs.declared.found.SearchFault.TheVariants.{Fault}
+use Rattle.lgm_route.specs.declared.fault.RouteFault.TheVariants.{NoRoute, NoMemory}
 use Rattle.lgm_route.specs.Preferred.{IsRouteBy, penalty_at, preferred_answer, no_preferences}
 use Rattle.lgm_payer.specs.declared.ending.Ending.{Ending}
 use Rattle.lgm_payer.specs.declared.ending.Failure.{Failure}
@@ -22,8 +25,11 @@ use Rattle.lgm_payer.specs.declared.ending.FailureKind.{FailureKind}
 use Rattle.lgm_payer.specs.declared.ending.FailureKind.TheVariants.{Balance, Node, Terms, Expiry, Channel}
 use Rattle.lgm_payer.specs.declared.invoice.Invoice.{Invoice}
 use Rattle.lgm_payer.specs.declared.part.Part.{Part}
+use Rattle.lgm_payer.specs.declared.unpaid.Unpaid.{Unpaid}
+use Rattle.lgm_payer.specs.declared.unpaid.Unpaid.TheVariants.{Search, TooDear, TriesUsedUp, PayeeRefused}
 use Rattle.lgm_payer.specs.Endings.{kind_of}
-use Rattle.lgm_payer.specs.Payments.{PaymentState, fees}
+use Rattle.lgm_payer.specs.Reasons.{is_mendable}
+use Rattle.lgm_payer.specs.Payments.{PaymentState, IsShare, fees, next_amount, pieces, parts_left, part_of, with_sent}
 use Rattle.lgm_payer.specs.Overlays.{overlay_of}
 
 -- ---- what ends a payment
@@ -99,15 +105,17 @@ edges_for known rows payment own busy = overlaid_edges known rows (overlay_of pa
 
 -- ---- what is answered
 
--- the answer for a part by what its payer prefers: the best route within the limits, or one that may not be the best; or why
--- there is none
+-- the answer for a part within limits, by what its payer prefers: the best route, or one that may not be the best, or why
+-- there is none; if there are no limits, no route
+abbrev pub IsAnswerWithin : Option RouteLimits → (PointEdge → ℕ → ℕ) → List PointEdge → Request → Result Found SearchFault → Type 0
+IsAnswerWithin None penalty edges request answer = answer ≡ Err (Fault NoRoute)
+IsAnswerWithin (Some limits) penalty edges request answer =
+    IsRouteBy (λ answer. answer ≡ preferred_answer penalty limits edges request) limits edges request answer
+
+-- that for a part of a payment
 pub record IsAnswerFor (penalty : PointEdge → ℕ → ℕ) (payment : PaymentState) (edges : List PointEdge) (height amount : ℕ)
     (answer : Result Found SearchFault) : Type 0 where
-  pub limits : RouteLimits
-  pub limits_are : route_limits payment ≡ Some limits
-  pub route : IsRouteBy
-      (λ answer. answer ≡ preferred_answer penalty limits edges (request_of payment amount height))
-      limits edges (request_of payment amount height) answer
+  pub within : IsAnswerWithin (route_limits payment) penalty edges (request_of payment amount height) answer
 
 -- such a route whose fee is within the bound
 pub record IsRouteFor (penalty : PointEdge → ℕ → ℕ) (payment : PaymentState) (edges : List PointEdge) (height amount : ℕ)
@@ -130,3 +138,59 @@ pub record IsTooDear (payment : PaymentState) (edges : List PointEdge) (height a
   pub answer : IsAnswerFor plain payment edges height amount (Ok found)
   pub fee_is : fee ≡ sent found.route - amount
   pub beyond : payment.bounds.most_fee < fee + fees payment
+
+-- ---- in how many parts
+
+-- half of the next part, if more parts may be under way than are to carry what is left, and it is enough for a part
+abbrev pub halved : ℕ → PaymentState → Option ℕ
+halved most payment =
+    let half = div_ceil (next_amount most payment) 2 in
+    if nat_le (parts_left payment) (pieces most payment) || nat_lt half payment.bounds.least_part || nat_le most half then None
+    else Some half
+
+-- what a part is sent over: a route for the next amount, where none is to have more than this
+pub record IsOffered (penalty : PointEdge → ℕ → ℕ) (payment : PaymentState) (edges : List PointEdge) (height : ℕ)
+    (found : Found) (amount most : ℕ) : Type 0 where
+  pub some : 1 ≤ most
+  pub within : most ≤ payment.most_part
+  pub amount_is : amount ≡ next_amount most payment
+  pub share : IsShare payment amount
+  pub route : IsFoundFor penalty payment edges height amount found
+
+-- why none is found for an amount
+abbrev pub IsReason : (PointEdge → ℕ → ℕ) → PaymentState → List PointEdge → ℕ → ℕ → Unpaid → Type 0
+IsReason penalty payment edges height amount (Search fault) =
+    IsAnswerFor penalty payment edges height amount (Err fault) ⊎ IsAnswerFor plain payment edges height amount (Err fault)
+IsReason penalty payment edges height amount (TooDear fee) = IsTooDear payment edges height amount fee
+IsReason penalty payment edges height amount TriesUsedUp = ⊥
+IsReason penalty payment edges height amount (PayeeRefused code) = ⊥
+
+-- that for the last amount that was tried: a smaller one mends nothing, or isn't allowed
+pub record IsLast (penalty : PointEdge → ℕ → ℕ) (payment : PaymentState) (edges : List PointEdge) (height : ℕ)
+    (reason : Unpaid) : Type 0 where
+  pub most : ℕ
+  pub some : 1 ≤ most
+  pub within : most ≤ payment.most_part
+  pub why : IsReason penalty payment edges height (next_amount most payment) reason
+  pub last : is_mendable reason ≡ true → halved most payment ≡ None
+
+-- why nothing more is sent
+abbrev pub IsUnpaid : (PointEdge → ℕ → ℕ) → PaymentState → List PointEdge → ℕ → Unpaid → Type 0
+IsUnpaid penalty payment edges height (PayeeRefused code) = refusal_of payment.parts ≡ Some code
+IsUnpaid penalty payment edges height TriesUsedUp = payment.bounds.most_tries ≤ length payment.parts
+IsUnpaid penalty payment edges height (TooDear fee) = IsLast penalty payment edges height (TooDear fee)
+IsUnpaid penalty payment edges height (Search fault) =
+    (fault ≡ Fault NoMemory) ⊎ IsLast penalty payment edges height (Search fault)
+
+-- ---- the next part
+
+-- a part was sent over a route that is the answer
+pub record IsSent (penalty : PointEdge → ℕ → ℕ) (edges : List PointEdge) (height : ℕ) (old new : PaymentState)
+    (place : ℕ) (is_best : Bool) : Type 0 where
+  pub found : Found
+  pub amount : ℕ
+  pub most : ℕ
+  pub offered : IsOffered penalty old edges height found amount most
+  pub sends : new ≡ with_sent most (part_of found.route amount height) old
+  pub place_is : place ≡ length old.parts
+  pub best_is : is_best ≡ found.is_best

@@ -1,13 +1,14 @@
 //! Payments.
 
-ghost use Rattle.std.specs.Prelude.{◌≡◌, ◌↔◌, ◌≤◌, ◌<◌, ◌+◌, ◌-◌, ◌*◌, ◌^◌, [], max, length, sum_by, IsTrue, IsSome, IfOk, OnOk, OnErr};
+ghost use Rattle.std.specs.Prelude.{◌≡◌, ◌↔◌, ◌≤◌, ◌<◌, ◌+◌, ◌-◌, ◌*◌, ◌^◌, [], max, length, sum_by, IsTrue, None, Ok, IfOk, IfErr, IfSome, OnOk, OnErr};
 ghost use Rattle.std.specs.Bool.{OnFalse, OnTrue};
 ghost use Rattle.lgm_graph.specs.Route.{sent, expiry};
 ghost use Rattle.lgm_graph.specs.Graph.{IsGraphOf};
 ghost use Rattle.lgm_graph.specs.Overlay.{overlaid_edges};
 ghost use Rattle.lgm_route.specs.Preferred.{penalty_at};
 ghost use Rattle.lgm_payer.specs.Overlays.{overlay_of};
-ghost use Rattle.lgm_payer.specs.Searches.{refusal_of, request_of, route_limits, IsAnswerFor};
+ghost use Rattle.lgm_payer.specs.Searches.{refusal_of, request_of, route_limits, edges_for, halved};
+ghost use Rattle.lgm_payer.specs.Searches.{IsAnswerFor, IsFoundFor, IsReason, IsOffered, IsLast, IsUnpaid, IsSent};
 ghost use Rattle.lgm_payer.specs.Parts.{held_amount, held_fee, arrived_amount};
 ghost use Rattle.lgm_payer.specs.Payments.{KeepsBounds, IsShare, IsPaid, IsEnded, left, fees, parts_left, pieces, next_amount, part_of, with_sent, most_at_once};
 
@@ -15,9 +16,11 @@ use crate::bounds::Bounds;
 use crate::ending::Ending;
 use crate::exclusions::{fewest_blocks, refusal_of};
 use crate::invoice::Invoice;
+use crate::offer::{Offer, Sending};
 use crate::outlook::Outlook;
 use crate::overlays::{add_spared, limit_by_capacity, limit_by_failures, silence_by_failures};
 use crate::part::Part;
+use crate::unpaid::Unpaid;
 use lgm_gossip::Point;
 use lgm_graph::{Estimates, ExtraEdge, Hop, Overlay, Route};
 use lgm_route::{
@@ -256,7 +259,7 @@ impl Payment {
     ) -> Result<Found, SearchFault>
         requires beside { IsGraphOf outlook.now.map.now outlook.now.view.now }
         requires few { length outlook.now.view.now.points + 2 * length overlay.now.extra < 2 ^ 32 }
-        ensures { IsSome (route_limits self.now) → IsAnswerFor (penalty_at preferences.now estimates.now) self.now
+        ensures { IsAnswerFor (penalty_at preferences.now estimates.now) self.now
             (overlaid_edges outlook.now.view.now.known outlook.now.map.now overlay.now) outlook.now.height amount result }
     {
         let Some(limits) = self.route_limits() else {
@@ -274,6 +277,156 @@ impl Payment {
             &limits,
             &outlook.budget,
         )
+    }
+
+    /// Whether the fee of a route for an amount is within the bound.
+    fn affords(&self, found: &Found, amount: u64) -> bool
+        requires { amount ≤ sent found.now.route }
+        ensures { IsTrue result ↔ (sent found.now.route - amount + fees self.now ≤ self.now.bounds.most_fee) }
+    {
+        found.route.sent() - amount <= self.bounds.most_fee - self.fees()
+    }
+
+    /// A route for a part, by what its payer prefers, or else the cheapest one.
+    #[tactic(auto, using(crate::proofs::RouteLaws::answer_sends))]
+    fn found(
+        &self,
+        alloc: Global,
+        outlook: &Outlook<'_>,
+        overlay: &Overlay,
+        amount: u64,
+    ) -> Result<Found, Unpaid>
+        requires beside { IsGraphOf outlook.now.map.now outlook.now.view.now }
+        requires few { length outlook.now.view.now.points + 2 * length overlay.now.extra < 2 ^ 32 }
+        ensures found { IfOk result (λ found.
+            IsFoundFor (penalty_at outlook.now.preferences outlook.now.estimates.now) self.now
+            (overlaid_edges outlook.now.view.now.known outlook.now.map.now overlay.now) outlook.now.height amount found) }
+        ensures why { IfErr result (λ reason.
+            IsReason (penalty_at outlook.now.preferences outlook.now.estimates.now) self.now
+            (overlaid_edges outlook.now.view.now.known outlook.now.map.now overlay.now) outlook.now.height amount reason) }
+    {
+        let found = self.answer(
+            alloc,
+            outlook,
+            overlay,
+            amount,
+            &outlook.preferences,
+            outlook.estimates,
+        )?;
+        if self.affords(&found, amount) {
+            return Ok(found);
+        }
+        let nothing = Estimates::new(alloc);
+        let found = self.answer(
+            alloc,
+            outlook,
+            overlay,
+            amount,
+            &Preferences::none(),
+            &nothing,
+        )?;
+        if self.affords(&found, amount) {
+            return Ok(found);
+        }
+        Err(Unpaid::TooDear(found.route.sent() - amount))
+    }
+
+    /// Half of the next part, where that may be sent.
+    fn halved(&self, most: u64) -> Option<u64>
+        requires most { 1 ≤ most }
+        requires left { 0 < left self.now }
+        ensures exact { result ≡ halved most self.now }
+        ensures some { IfSome result (λ half. 1 ≤ half) }
+        ensures less { IfSome result (λ half. half < most) }
+    {
+        let half = self.next_amount(most).div_ceil(2);
+        if self.parts_left() as u64 <= self.pieces(most)
+            || half < self.bounds.least_part
+            || most <= half
+        {
+            return None;
+        }
+        Some(half)
+    }
+
+    /// What the next part is sent over. Where the whole has no route within the bounds, it is divided.
+    fn offer(
+        &self,
+        alloc: Global,
+        outlook: &Outlook<'_>,
+        overlay: &Overlay,
+    ) -> Result<Offer, Unpaid>
+        requires beside { IsGraphOf outlook.now.map.now outlook.now.view.now }
+        requires few { length outlook.now.view.now.points + 2 * length overlay.now.extra < 2 ^ 32 }
+        requires left { 0 < left self.now }
+        ensures offered { IfOk result (λ offer.
+            IsOffered (penalty_at outlook.now.preferences outlook.now.estimates.now) self.now
+            (overlaid_edges outlook.now.view.now.known outlook.now.map.now overlay.now) outlook.now.height
+            offer.found offer.amount offer.most) }
+        ensures why { IfErr result (λ reason.
+            IsLast (penalty_at outlook.now.preferences outlook.now.estimates.now) self.now
+            (overlaid_edges outlook.now.view.now.known outlook.now.map.now overlay.now) outlook.now.height reason) }
+    {
+        let mut most = self.most_part;
+        'halving: loop {
+            let amount = self.next_amount(most);
+            match self.found(alloc, outlook, overlay, amount) {
+                Ok(found) => {
+                    return Ok(Offer {
+                        found,
+                        amount,
+                        most,
+                    });
+                }
+                Err(reason) => {
+                    if !reason.may_be_mended() {
+                        return Err(reason);
+                    }
+                    match self.halved(most) {
+                        Some(half) => most = half,
+                        None => return Err(reason),
+                    }
+                }
+            }
+        }
+    }
+
+    /// Sends the next part: it is under way from now on. None, if all of the amount is under way or has arrived. The amount is
+    /// divided where the whole has no route within the bounds. An error changes nothing.
+    pub fn next_part(
+        &mut self,
+        alloc: Global,
+        outlook: &Outlook<'_>,
+    ) -> Result<Option<Sending>, Unpaid>
+        requires beside { IsGraphOf outlook.now.map.now outlook.now.view.now }
+        requires few { length outlook.now.view.now.points + 2 * (length outlook.now.own.now + length self.old.hints) < 2 ^ 32 }
+        ensures sent { IfOk result (λ next. IfSome next (λ sending.
+            IsSent (penalty_at outlook.now.preferences outlook.now.estimates.now)
+            (edges_for outlook.now.view.now.known outlook.now.map.now self.old outlook.now.own.now outlook.now.busy.now)
+            outlook.now.height self.old self.new sending.place sending.is_best)) }
+        ensures whole { result ≡ Ok None → left self.old ≡ 0 }
+        ensures idle { result ≡ Ok None → self.new ≡ self.old }
+        ensures why { IfErr result (λ reason.
+            IsUnpaid (penalty_at outlook.now.preferences outlook.now.estimates.now) self.old
+            (edges_for outlook.now.view.now.known outlook.now.map.now self.old outlook.now.own.now outlook.now.busy.now)
+            outlook.now.height reason) }
+        ensures stays { OnErr result (self.new ≡ self.old) }
+    {
+        if self.left() == 0 {
+            return Ok(None);
+        }
+        if let Some(code) = self.refusal() {
+            return Err(Unpaid::PayeeRefused(code));
+        }
+        if self.bounds.most_tries <= self.parts.len() {
+            return Err(Unpaid::TriesUsedUp);
+        }
+        let overlay = self.overlay(alloc, outlook.map, outlook.own, outlook.busy)?;
+        let offer = self.offer(alloc, outlook, &overlay)?;
+        let place = self.parts.len();
+        let is_best = offer.found.is_best;
+        self.send(offer.found.route, offer.amount, outlook.height, offer.most)?;
+        Ok(Some(Sending { place, is_best }))
     }
 
     /// Notes that a part over a route was sent. The only error is out of memory, which changes nothing.

@@ -1,6 +1,7 @@
 //! Why nothing more can be sent.
 
 ghost use Rattle.std.specs.Prelude.{◌≡◌};
+ghost use Rattle.lgm_payer.specs.Reasons.{is_mendable};
 ghost use Rattle.lgm_payer.specs.declared.unpaid.Unpaid.TheVariants.{Search};
 ghost use Rattle.lgm_route.specs.declared.found.SearchFault.TheVariants.{Fault};
 ghost use Rattle.lgm_route.specs.declared.fault.RouteFault.TheVariants.{NoMemory};
@@ -24,6 +25,18 @@ pub enum Unpaid {
     /// The payee returned this failure code (BOLT 4).
     #[error("the payee refused: {0}")]
     PayeeRefused(u16),
+}
+
+impl Unpaid {
+    /// Whether smaller parts may have what this one hasn't.
+    pub(crate) fn may_be_mended(&self) -> bool
+        ensures { result ≡ is_mendable self.now }
+    {
+        matches!(
+            self,
+            Unpaid::TooDear(_) | Unpaid::Search(SearchFault::Fault(RouteFault::NoRoute))
+        )
+    }
 }
 
 impl From<SearchFault> for Unpaid {
