@@ -17,7 +17,7 @@ use Rattle.lgm_payer.specs.Payments.{PaymentState, fees}
 use Rattle.lgm_payer.specs.Searches.{IsAnswerWithin, IsAnswerFor, IsRouteFor, IsFoundFor, request_of, route_limits, most_blocks, or_fewer, blocks_left, final_blocks, plain}
 
 -- what has to reach the first node is no less than what arrives
-owed_more : (amount : ℕ) (rest : List PointEdge) → amount ≤ owed amount rest
+pub owed_more : (amount : ℕ) (rest : List PointEdge) → amount ≤ owed amount rest
 owed_more amount [] = omega arith
 owed_more amount (edge ∷ rest) =
     let before = owed_more amount rest in

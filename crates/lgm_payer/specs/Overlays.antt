@@ -1,8 +1,8 @@
 -- What a payment knows beside the map: its payer's channels, the invoice's hints, and what failed parts and parts that are
 -- under way leave.
-use Rattle.std.specs.Prelude.{ℕ, ◌+◌, ◌-◌, ◌*◌, ◌^◌, Bool, not, ◌&&◌, ◌==◌, min, List, [], ◌∷◌, ◌++◌, map, sum_by}
+use Rattle.std.specs.Prelude.{◌≡◌, ◌⊎◌, ℕ, ◌≤◌, Contains, ◌+◌, ◌-◌, ◌*◌, ◌^◌, Bool, not, ◌&&◌, ◌==◌, min, List, [], ◌∷◌, ◌++◌, map, sum_by}
 use Rattle.std.specs.Prelude.{Option, Some, None, slice_get, if◌then◌else◌}
-use Rattle.std.specs.List.{list_any, flat_map}
+use Rattle.std.specs.List.{list_any, flat_map, AllByRecursion}
 use Rattle.std.specs.Option.{option_map, option_and_then, option_or}
 use Rattle.lgm_wire.specs.declared.point.Point.{Point}
 use Rattle.lgm_check.specs.declared.row.ChannelRow.{ChannelRow}
@@ -138,3 +138,18 @@ overlay_of payment rows own busy = record {
   limits = capacity_limits rows busy ++ limits_left payment.payer payment.hints payment.parts;
   silent = payment.payer ∷ all_silenced payment.payer payment.hints payment.parts;
 }
+
+-- ---- nothing is promised twice
+
+-- there is room over an edge for an amount beside these hops: it is one of the payer's channels or of the hints, with a
+-- maximum for both, or its channel has the capacity for both
+abbrev pub HasRoom : Rows → List ExtraEdge → List Hop → ℕ → Point → ℕ → Type 0
+HasRoom rows extra busy scid from amount =
+    ((edge : ExtraEdge) × Contains extra edge × (edge.scid ≡ scid) × (edge.from ≡ from)
+    × (carried_over busy scid from + amount ≤ edge.max))
+    ⊎ ((channel : ChannelRow) × (channel_of rows.channels scid ≡ Some channel)
+    × (carried_over busy scid from + amount ≤ channel.sat * 1000))
+
+-- there is for each hop of a route
+abbrev pub HaveRoom : Rows → List ExtraEdge → List Hop → List Hop → Type 0
+HaveRoom rows extra busy route = AllByRecursion (λ hop. HasRoom rows extra busy hop.scid hop.from hop.amount) route
