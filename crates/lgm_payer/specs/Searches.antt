@@ -1,5 +1,5 @@
 -- The search for a payment's next part: what is asked, and what its answer is.
-use Rattle.std.specs.Prelude.{◌≡◌, ◌⊎◌, ℕ, ◌+◌, ◌-◌, ◌^◌, ◌<◌, ◌≤◌, Bool, true, false, not, ◌&&◌, ◌==◌, ◌||◌, nat_lt, nat_le, min, List, [], length, fold}
+use Rattle.std.specs.Prelude.{◌≡◌, ◌⊎◌, ℕ, ◌+◌, ◌-◌, ◌^◌, ◌<◌, ◌≤◌, Bool, true, false, not, ◌&&◌, ◌==◌, ◌||◌, nat_lt, nat_le, min, List, [], ◌++◌, length, fold}
 use Rattle.std.specs.Prelude.{Option, Some, None, Result, Ok, Err, if◌then◌else◌}
 use Rattle.std.specs.Option.{option_or}
 use Rattle.std.specs.Int.{div_ceil}
@@ -30,7 +30,7 @@ use Rattle.lgm_payer.specs.declared.unpaid.Unpaid.TheVariants.{Search, TooDear, 
 use Rattle.lgm_payer.specs.Endings.{kind_of}
 use Rattle.lgm_payer.specs.Reasons.{is_mendable}
 use Rattle.lgm_payer.specs.Payments.{PaymentState, IsShare, fees, next_amount, pieces, parts_left, part_of, with_sent}
-use Rattle.lgm_payer.specs.Overlays.{overlay_of}
+use Rattle.lgm_payer.specs.Overlays.{overlay_of, HaveRoom}
 
 -- ---- what ends a payment
 
@@ -184,13 +184,14 @@ IsUnpaid penalty payment edges height (Search fault) =
 
 -- ---- the next part
 
--- a part was sent over a route that is the answer
-pub record IsSent (penalty : PointEdge → ℕ → ℕ) (edges : List PointEdge) (height : ℕ) (old new : PaymentState)
-    (place : ℕ) (is_best : Bool) : Type 0 where
+-- a part was sent over a route that is the answer, and that leaves each edge what is under way over it
+pub record IsSent (penalty : PointEdge → ℕ → ℕ) (known : Option (List ℕ)) (rows : Rows) (own : List ExtraEdge) (busy : List Hop)
+    (height : ℕ) (old new : PaymentState) (place : ℕ) (is_best : Bool) : Type 0 where
   pub found : Found
   pub amount : ℕ
   pub most : ℕ
-  pub offered : IsOffered penalty old edges height found amount most
+  pub offered : IsOffered penalty old (edges_for known rows old own busy) height found amount most
+  pub room : HaveRoom rows (own ++ old.hints) busy found.route
   pub sends : new ≡ with_sent most (part_of found.route amount height) old
   pub place_is : place ≡ length old.parts
   pub best_is : is_best ≡ found.is_best

@@ -1,6 +1,6 @@
 //! What to send next for an invoice, in one part or several, by what became of what was sent.
 //!
-//! A [`Payment`] is an invoice, what its payment may take, and the parts that were ever sent for it, each with how it ended.
+//! A [`Payer`] has its payments, and what it has learnt of edges. A [`Payment`] is an invoice, what its payment may take, and the parts that were ever sent for it, each with how it ended.
 #![tactic(auto)]
 
 mod bounds;
@@ -8,10 +8,13 @@ mod carried;
 mod ending;
 mod exclusions;
 mod invoice;
+mod learning;
+mod lesson;
 mod offer;
 mod outlook;
 mod overlays;
 mod part;
+mod payer;
 mod payment;
 mod unpaid;
 
@@ -19,7 +22,8 @@ pub use bounds::Bounds;
 pub use ending::{Ending, Failure, FailureKind};
 pub use invoice::Invoice;
 pub use offer::Sending;
-pub use outlook::Outlook;
+pub use outlook::{Outlook, Sight};
 pub use part::Part;
+pub use payer::Payer;
 pub use payment::Payment;
 pub use unpaid::Unpaid;

@@ -1,11 +1,14 @@
 //! Payments.
 
-ghost use Rattle.std.specs.Prelude.{◌≡◌, ◌↔◌, ◌≤◌, ◌<◌, ◌+◌, ◌-◌, ◌*◌, ◌^◌, [], max, length, sum_by, IsTrue, None, Ok, IfOk, IfErr, IfSome, OnOk, OnErr};
+ghost use Rattle.std.specs.Prelude.{◌≡◌, ◌↔◌, ◌≤◌, ◌<◌, ◌+◌, ◌-◌, ◌*◌, ◌^◌, [], max, length, sum_by, IsTrue, None, Ok, IfOk, ℕ, slice_get, IfErr, IfSome, OnOk, OnErr};
 ghost use Rattle.std.specs.Bool.{OnFalse, OnTrue};
 ghost use Rattle.lgm_graph.specs.Route.{sent, expiry};
 ghost use Rattle.lgm_graph.specs.Graph.{IsGraphOf};
 ghost use Rattle.lgm_graph.specs.Overlay.{overlaid_edges};
 ghost use Rattle.lgm_route.specs.Preferred.{penalty_at};
+ghost use Rattle.lgm_payer.specs.Learning.{AreTaught, learnt_from};
+ghost use Rattle.lgm_graph.specs.Estimates.{estimate_of};
+ghost use Rattle.lgm_wire.specs.declared.point.Point.{Point as Node};
 ghost use Rattle.lgm_payer.specs.Overlays.{overlay_of};
 ghost use Rattle.lgm_payer.specs.Searches.{refusal_of, request_of, route_limits, edges_for, halved};
 ghost use Rattle.lgm_payer.specs.Searches.{IsAnswerFor, IsFoundFor, IsReason, IsOffered, IsLast, IsUnpaid, IsSent};
@@ -16,6 +19,7 @@ use crate::bounds::Bounds;
 use crate::ending::Ending;
 use crate::exclusions::{fewest_blocks, refusal_of};
 use crate::invoice::Invoice;
+use crate::learning::learn;
 use crate::offer::{Offer, Sending};
 use crate::outlook::Outlook;
 use crate::overlays::{add_spared, limit_by_capacity, limit_by_failures, silence_by_failures};
@@ -401,9 +405,9 @@ impl Payment {
         requires beside { IsGraphOf outlook.now.map.now outlook.now.view.now }
         requires few { length outlook.now.view.now.points + 2 * (length outlook.now.own.now + length self.old.hints) < 2 ^ 32 }
         ensures sent { IfOk result (λ next. IfSome next (λ sending.
-            IsSent (penalty_at outlook.now.preferences outlook.now.estimates.now)
-            (edges_for outlook.now.view.now.known outlook.now.map.now self.old outlook.now.own.now outlook.now.busy.now)
-            outlook.now.height self.old self.new sending.place sending.is_best)) }
+            IsSent (penalty_at outlook.now.preferences outlook.now.estimates.now) outlook.now.view.now.known
+            outlook.now.map.now outlook.now.own.now outlook.now.busy.now outlook.now.height
+            self.old self.new sending.place sending.is_best)) }
         ensures whole { result ≡ Ok None → left self.old ≡ 0 }
         ensures idle { result ≡ Ok None → self.new ≡ self.old }
         ensures why { IfErr result (λ reason.
@@ -450,6 +454,31 @@ impl Payment {
         self.parts.push(part)?;
         self.most_part = most;
         Ok(())
+    }
+
+    /// Has estimates learn what the end of the part at a place teaches, while these hops are under way. The only error is out of
+    /// memory, which leaves some of it learnt.
+    pub(crate) fn teach(
+        &self,
+        estimates: &mut Estimates,
+        busy: &[Hop],
+        place: usize,
+        ending: Ending,
+    ) -> Result<(), AllocError>
+        ensures { OnOk result (IfSome (slice_get self.now.parts place) (λ part.
+            AreTaught (learnt_from self.now.payer self.now.hints busy.now part.route ending) estimates.old estimates.new)) }
+    {
+        let Some(part) = self.parts.get(place) else {
+            return Ok(());
+        };
+        learn(
+            estimates,
+            &self.payer,
+            &self.hints,
+            busy,
+            part.route.as_slice(),
+            ending,
+        )
     }
 
     /// The part at a place ended. If it isn't under way, nothing changes, and the result is false.
