@@ -1,6 +1,6 @@
 -- What a call about one payment makes of its payer.
 use Rattle.std.proofs.Common.{◌≡◌, ℕ, ◌<◌, Bool, List, ◌++◌, length, get_or, Option, Some, None, Result, Ok, Err, refl, sym, ap, subst, ◌∙◌, set}
-use Rattle.std.specs.Prelude.{slice_get, slice_set, IfOk, IfSome, OnErr}
+use Rattle.std.specs.Prelude.{slice_get, slice_set, IfOk, IfErr, IfSome, OnErr}
 use Rattle.std.proofs.Math.Path.{fun_ext}
 use Rattle.std.proofs.lemmas.List.{set-get_or}
 use Rattle.std.proofs.lemmas.Option.{slice_get-get_or}
@@ -18,9 +18,9 @@ use Rattle.lgm_payer.specs.declared.offer.Sending.{Sending}
 use Rattle.lgm_payer.specs.declared.part.Part.{Part}
 use Rattle.lgm_payer.specs.declared.unpaid.Unpaid.{Unpaid}
 use Rattle.lgm_payer.specs.Payments.{PaymentState, IsEnded}
-use Rattle.lgm_payer.specs.Searches.{IsSent}
+use Rattle.lgm_payer.specs.Searches.{IsSent, IsUnpaid, edges_for}
 use Rattle.lgm_payer.specs.Learning.{AreTaught, learnt_from, left_beside, penalty_beside}
-use Rattle.lgm_payer.specs.Payers.{PayerState, all_busy, IsSentIn, IsEndedIn}
+use Rattle.lgm_payer.specs.Payers.{PayerState, all_busy, IsSentIn, IsUnpaidIn, IsEndedIn}
 
 -- the payment at a place is the one that was lent
 pub lent_there : (payments : List PaymentState) (place : ℕ) (before : PaymentState) → place < length payments
@@ -104,3 +104,19 @@ ended_in payments learnt copied next busy payment place ending before after ther
           subst (λ (hops : List Hop). AreTaught (learnt_from before.payer before.hints hops ends.part.route ending) learnt next) is
           (subst (λ (old : Entries). AreTaught (learnt_from before.payer before.hints busy ends.part.route ending) old next) as_it_was own);
     }
+
+-- why a payment sends nothing
+pub unpaid_in : (preferences : Preferences) (bits : Option (List ℕ)) (rows : Rows) (own : List ExtraEdge) (height : ℕ)
+    (payments : List PaymentState) (learnt known : Entries) (busy : List Hop) (payment : ℕ) (before : PaymentState)
+    (answer : Result (Option Sending) Unpaid) → slice_get payments payment ≡ Some before → busy ≡ all_busy payments
+    → AreTaught (left_beside busy) learnt known
+    → IfErr answer (λ reason. IsUnpaid (penalty_at preferences known) before (edges_for bits rows before own busy) height reason)
+    → IfErr answer (λ reason.
+    IsUnpaidIn preferences bits rows own height (record { payments = payments; learnt = learnt }) payment reason)
+unpaid_in preferences bits rows own height payments learnt known busy payment before (Ok next) there is taught why = why
+unpaid_in preferences bits rows own height payments learnt known busy payment before (Err reason) there is taught why =
+    rw there
+    (subst (λ (hops : List Hop).
+    IsUnpaid (penalty_beside preferences learnt hops) before (edges_for bits rows before own hops) height reason) is
+    (subst (λ (penalty : PointEdge → ℕ → ℕ). IsUnpaid penalty before (edges_for bits rows before own busy) height reason)
+    (penalties_beside preferences learnt known busy taught) why))

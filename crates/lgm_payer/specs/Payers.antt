@@ -1,5 +1,5 @@
 -- A payer: its payments, and what it has learnt of edges.
-use Rattle.std.specs.Prelude.{◌≡◌, ℕ, Bool, List, ◌++◌, Option, Some, slice_get, slice_set}
+use Rattle.std.specs.Prelude.{◌≡◌, ℕ, Bool, List, ◌++◌, Option, Some, IfSome, slice_get, slice_set}
 use Rattle.std.specs.List.{flat_map}
 use Rattle.lgm_store.specs.Rows.{Rows}
 use Rattle.lgm_graph.specs.Estimates.{Entries}
@@ -32,6 +32,13 @@ pub record IsSentIn (preferences : Preferences) (known : Option (List ℕ)) (row
       before after place is_best
   pub payments : new.payments ≡ slice_set old.payments payment after
   pub learnt : new.learnt ≡ old.learnt
+
+-- why no part of the payment at a place is sent
+abbrev pub IsUnpaidIn : Preferences → Option (List ℕ) → Rows → List ExtraEdge → ℕ → PayerState → ℕ → Unpaid → Type 0
+IsUnpaidIn preferences known rows own height payer payment reason =
+    IfSome (slice_get payer.payments payment) (λ payment.
+    let busy = all_busy payer.payments in
+    IsUnpaid (penalty_beside preferences payer.learnt busy) payment (edges_for known rows payment own busy) height reason)
 
 -- a part of the payment at a place ended, and what that teaches was learnt; nothing else changed
 pub record IsEndedIn (old new : PayerState) (payment place : ℕ) (ending : Ending) : Type 0 where

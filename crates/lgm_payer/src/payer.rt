@@ -1,10 +1,10 @@
 //! Payers.
 
-ghost use Rattle.std.specs.Prelude.{◌≡◌, ◌↔◌, ◌++◌, ◌∷◌, ◌+◌, ◌*◌, ◌^◌, ◌<◌, [], None, Ok, Some, length, slice_get, IfOk, IfSome, OnOk, OnErr};
+ghost use Rattle.std.specs.Prelude.{◌≡◌, ◌↔◌, ◌++◌, ◌∷◌, ◌+◌, ◌*◌, ◌^◌, ◌<◌, [], None, Ok, Some, length, slice_get, IfOk, IfErr, IfSome, OnOk, OnErr};
 ghost use Rattle.std.specs.Bool.{OnFalse, OnTrue};
 ghost use Rattle.lgm_graph.specs.Graph.{IsGraphOf};
 ghost use Rattle.lgm_payer.specs.Payments.{left};
-ghost use Rattle.lgm_payer.specs.Payers.{all_busy, IsSentIn, IsEndedIn};
+ghost use Rattle.lgm_payer.specs.Payers.{all_busy, IsSentIn, IsUnpaidIn, IsEndedIn};
 
 use crate::carried::add_all_under_way;
 use crate::ending::Ending;
@@ -94,6 +94,9 @@ impl Payer {
             self.old self.new payment sending.place sending.is_best)) }
         ensures whole { result ≡ Ok None → IfSome (slice_get self.old.payments payment) (λ payment. left payment ≡ 0) }
         ensures idle { result ≡ Ok None → self.new ≡ self.old }
+        ensures why { IfErr result (λ reason.
+            IsUnpaidIn sight.now.preferences sight.now.view.now.known sight.now.map.now sight.now.own.now sight.now.height
+            self.old payment reason) }
         ensures stays { OnErr result (self.new ≡ self.old) }
     {
         let busy = all_busy(alloc, &self.payments)?;

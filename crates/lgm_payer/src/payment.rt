@@ -132,6 +132,13 @@ impl Payment {
         self.parts.as_slice()
     }
 
+    /// The hints of its invoice.
+    pub fn hints(&self) -> &[ExtraEdge]
+        ensures { result.now ≡ self.now.hints }
+    {
+        self.hints.as_slice()
+    }
+
     /// What is neither under way nor has arrived, in msat.
     pub fn left(&self) -> u64
         ensures exact { result ≡ left self.now }
