@@ -1,5 +1,5 @@
 -- What a call about one payment makes of its payer.
-use Rattle.std.proofs.Common.{◌≡◌, ℕ, ◌<◌, Bool, List, ◌++◌, length, get_or, Option, Some, None, Result, Ok, Err, refl, sym, ap, subst, ◌∙◌, set}
+use Rattle.std.proofs.Common.{◌≡◌, ℕ, ◌<◌, Bool, List, length, get_or, Option, Some, None, Result, Ok, Err, refl, sym, ap, subst, ◌∙◌}
 use Rattle.std.specs.Prelude.{slice_get, slice_set, IfOk, IfErr, IfSome, OnErr}
 use Rattle.std.proofs.Math.Path.{fun_ext}
 use Rattle.std.proofs.lemmas.List.{set-get_or}
@@ -15,7 +15,6 @@ use Rattle.lgm_route.specs.Odds.{penalty_by}
 use Rattle.lgm_route.specs.Preferred.{penalty_at}
 use Rattle.lgm_payer.specs.declared.ending.Ending.{Ending}
 use Rattle.lgm_payer.specs.declared.offer.Sending.{Sending}
-use Rattle.lgm_payer.specs.declared.part.Part.{Part}
 use Rattle.lgm_payer.specs.declared.unpaid.Unpaid.{Unpaid}
 use Rattle.lgm_payer.specs.Payments.{PaymentState, IsEnded}
 use Rattle.lgm_payer.specs.Searches.{IsSent, IsUnpaid, edges_for}

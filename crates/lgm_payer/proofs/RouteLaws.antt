@@ -1,6 +1,6 @@
 -- Laws of the routes that are answers for parts.
-use Rattle.std.proofs.Common.{◌≡◌, ◌≢◌, ◌⊎◌, ℕ, ◌+◌, ◌-◌, ◌^◌, ◌<◌, ◌≤◌, List, [], ◌∷◌, Option, Some, None, Result, Ok, Err, refl, sym, ap, subst, arith, length, inl, inr}
-use Rattle.std.specs.Prelude.{fold, min, nat_lt, Bool, true, false, if◌then◌else◌}
+use Rattle.std.proofs.Common.{◌≡◌, ℕ, ◌+◌, ◌-◌, ◌≤◌, List, [], ◌∷◌, Option, Some, None, Ok, refl, sym, subst, arith, length, inl, inr}
+use Rattle.std.specs.Prelude.{fold, nat_lt, Bool, true, false, if◌then◌else◌}
 use Rattle.std.proofs.lemmas.Bool.Decides.{nat_tests}
 use Rattle.lgm_graph.specs.Edges.{PointEdge}
 use Rattle.lgm_graph.specs.Fee.{fee_of}
@@ -9,12 +9,11 @@ use Rattle.lgm_graph.specs.declared.route.Hop.{Hop}
 use Rattle.lgm_route.specs.declared.request.Request.{Request}
 use Rattle.lgm_route.specs.declared.limits.RouteLimits.{RouteLimits}
 use Rattle.lgm_route.specs.declared.found.Found.{Found}
-use Rattle.lgm_route.specs.declared.found.SearchFault.{SearchFault}
-use Rattle.lgm_route.specs.Routes.{owed, due, hops_of, IsUsable}
-use Rattle.lgm_route.specs.Preferred.{IsSomeRoute, IsWithin, delay}
+use Rattle.lgm_route.specs.Routes.{owed, due, hops_of}
+use Rattle.lgm_route.specs.Preferred.{IsSomeRoute, delay}
 use Rattle.lgm_payer.specs.declared.part.Part.{Part}
 use Rattle.lgm_payer.specs.Payments.{PaymentState, fees}
-use Rattle.lgm_payer.specs.Searches.{IsAnswerWithin, IsAnswerFor, IsRouteFor, IsFoundFor, request_of, route_limits, most_blocks, or_fewer, blocks_left, final_blocks, plain}
+use Rattle.lgm_payer.specs.Searches.{IsAnswerWithin, IsAnswerFor, IsFoundFor, request_of, route_limits, most_blocks, or_fewer, final_blocks, plain}
 
 -- what has to reach the first node is no less than what arrives
 pub owed_more : (amount : ℕ) (rest : List PointEdge) → amount ≤ owed amount rest

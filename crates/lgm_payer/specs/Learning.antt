@@ -1,5 +1,5 @@
 -- What a payer learns of edges, and what it believes of them beside what is under way.
-use Rattle.std.specs.Prelude.{◌≡◌, ℕ, ◌+◌, ◌-◌, ◌^◌, ◌&&◌, ◌==◌, Bool, true, false, min, nat_lt, List, [], fold, take, Option, Some, None, slice_get, if◌then◌else◌}
+use Rattle.std.specs.Prelude.{◌≡◌, ℕ, ◌-◌, ◌^◌, ◌&&◌, ◌==◌, Bool, true, false, min, nat_lt, List, fold, take, Option, Some, None, slice_get, if◌then◌else◌}
 use Rattle.lgm_wire.specs.declared.point.Point.{Point}
 use Rattle.lgm_store.specs.Rows.{is_point}
 use Rattle.lgm_graph.specs.declared.estimate.Estimate.{Estimate}

@@ -12,7 +12,6 @@ use Rattle.lgm_graph.specs.declared.overlay.Limit.{Limit}
 use Rattle.lgm_graph.specs.declared.route.Hop.{Hop}
 use Rattle.lgm_graph.specs.Overlay.{OverlayParts, extra_edge}
 use Rattle.lgm_payer.specs.declared.ending.Ending.{Ending}
-use Rattle.lgm_payer.specs.declared.ending.Failure.{Failure}
 use Rattle.lgm_payer.specs.declared.ending.Ending.TheVariants.{Arrived, Lost, Failed}
 use Rattle.lgm_payer.specs.declared.ending.FailureKind.{FailureKind}
 use Rattle.lgm_payer.specs.declared.ending.FailureKind.TheVariants.{Balance, Node, Terms, Expiry, Channel}

@@ -1,7 +1,6 @@
 -- Parts of a payment: which count.
 use Rattle.std.specs.Prelude.{ℕ, Bool, true, false, Option, Some, None, is_none, if◌then◌else◌}
 use Rattle.lgm_payer.specs.declared.ending.Ending.{Ending}
-use Rattle.lgm_payer.specs.declared.ending.Failure.{Failure}
 use Rattle.lgm_payer.specs.declared.ending.Ending.TheVariants.{Arrived, Lost, Failed}
 use Rattle.lgm_payer.specs.declared.part.Part.{Part}
 

@@ -1,5 +1,5 @@
 -- A payer: its payments, and what it has learnt of edges.
-use Rattle.std.specs.Prelude.{◌≡◌, ℕ, Bool, List, ◌++◌, Option, Some, IfSome, slice_get, slice_set}
+use Rattle.std.specs.Prelude.{◌≡◌, ℕ, Bool, List, Option, Some, IfSome, slice_get, slice_set}
 use Rattle.std.specs.List.{flat_map}
 use Rattle.lgm_store.specs.Rows.{Rows}
 use Rattle.lgm_graph.specs.Estimates.{Entries}

@@ -1,8 +1,6 @@
 -- Why nothing more can be sent.
-use Rattle.std.specs.Prelude.{ℕ, Bool, true, false}
-use Rattle.lgm_route.specs.declared.fault.RouteFault.{RouteFault}
+use Rattle.std.specs.Prelude.{Bool, true, false}
 use Rattle.lgm_route.specs.declared.fault.RouteFault.TheVariants as faults
-use Rattle.lgm_route.specs.declared.found.SearchFault.{SearchFault}
 use Rattle.lgm_route.specs.declared.found.SearchFault.TheVariants.{Fault, Undecided}
 use Rattle.lgm_payer.specs.declared.unpaid.Unpaid.{Unpaid}
 use Rattle.lgm_payer.specs.declared.unpaid.Unpaid.TheVariants.{Search, TooDear, TriesUsedUp, PayeeRefused}

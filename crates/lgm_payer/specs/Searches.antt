@@ -5,21 +5,18 @@ use Rattle.std.specs.Option.{option_or}
 use Rattle.std.specs.Int.{div_ceil}
 use Rattle.lgm_store.specs.Rows.{Rows}
 use Rattle.lgm_graph.specs.Edges.{PointEdge}
-use Rattle.lgm_graph.specs.Estimates.{Entries}
 use Rattle.lgm_graph.specs.Overlay.{overlaid_edges}
 use Rattle.lgm_graph.specs.Route.{sent}
 use Rattle.lgm_graph.specs.declared.overlay.ExtraEdge.{ExtraEdge}
 use Rattle.lgm_graph.specs.declared.route.Hop.{Hop}
 use Rattle.lgm_route.specs.declared.request.Request.{Request}
 use Rattle.lgm_route.specs.declared.limits.RouteLimits.{RouteLimits}
-use Rattle.lgm_route.specs.declared.preferences.Preferences.{Preferences}
 use Rattle.lgm_route.specs.declared.found.Found.{Found}
 use Rattle.lgm_route.specs.declared.found.SearchFault.{SearchFault}
 use Rattle.lgm_route.specs.declared.found.SearchFault.TheVariants.{Fault}
 use Rattle.lgm_route.specs.declared.fault.RouteFault.TheVariants.{NoRoute, NoMemory}
 use Rattle.lgm_route.specs.Preferred.{IsRouteBy, penalty_at, preferred_answer, no_preferences}
 use Rattle.lgm_payer.specs.declared.ending.Ending.{Ending}
-use Rattle.lgm_payer.specs.declared.ending.Failure.{Failure}
 use Rattle.lgm_payer.specs.declared.ending.Ending.TheVariants.{Arrived, Lost, Failed}
 use Rattle.lgm_payer.specs.declared.ending.FailureKind.{FailureKind}
 use Rattle.lgm_payer.specs.declared.ending.FailureKind.TheVariants.{Balance, Node, Terms, Expiry, Channel}
@@ -148,15 +145,6 @@ halved most payment =
     if nat_le (parts_left payment) (pieces most payment) || nat_lt half payment.bounds.least_part || nat_le most half then None
     else Some half
 
--- what a part is sent over: a route for the next amount, where none is to have more than this
-pub record IsOffered (penalty : PointEdge → ℕ → ℕ) (payment : PaymentState) (edges : List PointEdge) (height : ℕ)
-    (found : Found) (amount most : ℕ) : Type 0 where
-  pub some : 1 ≤ most
-  pub within : most ≤ payment.most_part
-  pub amount_is : amount ≡ next_amount most payment
-  pub share : IsShare payment amount
-  pub route : IsFoundFor penalty payment edges height amount found
-
 -- why none is found for an amount
 abbrev pub IsReason : (PointEdge → ℕ → ℕ) → PaymentState → List PointEdge → ℕ → ℕ → Unpaid → Type 0
 IsReason penalty payment edges height amount (Search fault) =
@@ -165,12 +153,31 @@ IsReason penalty payment edges height amount (TooDear fee) = IsTooDear payment e
 IsReason penalty payment edges height amount TriesUsedUp = ⊥
 IsReason penalty payment edges height amount (PayeeRefused code) = ⊥
 
+-- an amount that none of the parts is to be more than is reached by dividing: it is the payment's own, or half of the next
+-- part where that has no route within the bounds
+pub data IsReached (penalty : PointEdge → ℕ → ℕ) (payment : PaymentState) (edges : List PointEdge) (height : ℕ) : ℕ → Type 0 where
+  own : IsReached penalty payment edges height payment.most_part
+  half : (most less : ℕ) (reason : Unpaid) → IsReached penalty payment edges height most
+      → IsReason penalty payment edges height (next_amount most payment) reason → is_mendable reason ≡ true
+      → halved most payment ≡ Some less → IsReached penalty payment edges height less
+
+-- what a part is sent over: a route for the next amount, where none is to have more than this
+pub record IsOffered (penalty : PointEdge → ℕ → ℕ) (payment : PaymentState) (edges : List PointEdge) (height : ℕ)
+    (found : Found) (amount most : ℕ) : Type 0 where
+  pub some : 1 ≤ most
+  pub within : most ≤ payment.most_part
+  pub reached : IsReached penalty payment edges height most
+  pub amount_is : amount ≡ next_amount most payment
+  pub share : IsShare payment amount
+  pub route : IsFoundFor penalty payment edges height amount found
+
 -- that for the last amount that was tried: a smaller one mends nothing, or isn't allowed
 pub record IsLast (penalty : PointEdge → ℕ → ℕ) (payment : PaymentState) (edges : List PointEdge) (height : ℕ)
     (reason : Unpaid) : Type 0 where
   pub most : ℕ
   pub some : 1 ≤ most
   pub within : most ≤ payment.most_part
+  pub reached : IsReached penalty payment edges height most
   pub why : IsReason penalty payment edges height (next_amount most payment) reason
   pub last : is_mendable reason ≡ true → halved most payment ≡ None
 

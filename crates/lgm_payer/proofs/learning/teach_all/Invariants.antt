@@ -1,4 +1,4 @@
-use Rattle.std.proofs.Common.{◌≡◌, ℕ, take}
+use Rattle.std.proofs.Common.{take}
 use Rattle.lgm_payer.specs.Learning.{AreTaught, taught_all}
 use Rattle.lgm_payer.proofs.learning.teach_all.Given as goal
 

@@ -1,4 +1,4 @@
-use Rattle.std.proofs.Common.{◌≡◌, ℕ, take}
+use Rattle.std.proofs.Common.{take}
 use Rattle.std.specs.Prelude.{fold}
 use Rattle.lgm_payer.specs.Learning.{AreTaught, lowered_by}
 use Rattle.lgm_payer.proofs.lesson.beside.Given as goal

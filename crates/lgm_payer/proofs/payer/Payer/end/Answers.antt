@@ -1,7 +1,7 @@
-use Rattle.std.proofs.Common.{◌≡◌, ◌∙◌, ap, subst, rules, arith, get_or, ◌<◌, length}
-use Rattle.std.specs.Prelude.{slice_get, slice_set, IfSome, List, Some}
+use Rattle.std.proofs.Common.{◌≡◌, subst, rules, get_or, ◌<◌, length}
+use Rattle.std.specs.Prelude.{slice_get, slice_set, IfSome, List}
 use Rattle.lgm_graph.specs.declared.route.Hop.{Hop}
-use Rattle.lgm_payer.specs.Payments.{PaymentState, IsEnded}
+use Rattle.lgm_payer.specs.Payments.{IsEnded}
 use Rattle.lgm_payer.specs.Learning.{AreTaught, learnt_from}
 use Rattle.lgm_payer.specs.Payers.{PayerState, all_busy, IsEndedIn}
 use Rattle.lgm_payer.proofs.PayerLaws.{lent_there, ended_in}

@@ -1,8 +1,8 @@
-use Rattle.std.proofs.Common.{◌≡◌, ◌∙◌, ap, subst, sym, rules, get_or, ◌<◌, length, Ok, None}
-use Rattle.std.specs.Prelude.{slice_get, slice_set, IfSome, IfOk, IfErr, List, OnErr}
+use Rattle.std.proofs.Common.{◌≡◌, ◌∙◌, subst, rules, get_or, ◌<◌, length}
+use Rattle.std.specs.Prelude.{slice_get, slice_set, IfSome, IfOk, IfErr, List}
 use Rattle.lgm_graph.specs.declared.route.Hop.{Hop}
 use Rattle.lgm_route.specs.Preferred.{penalty_at}
-use Rattle.lgm_payer.specs.Payments.{PaymentState, left}
+use Rattle.lgm_payer.specs.Payments.{left}
 use Rattle.lgm_payer.specs.Searches.{IsSent, IsUnpaid, edges_for}
 use Rattle.lgm_payer.specs.Learning.{AreTaught, left_beside}
 use Rattle.lgm_payer.specs.Payers.{PayerState, all_busy, IsSentIn, IsUnpaidIn}
