@@ -287,4 +287,4 @@ pub found_room : (penalty : PointEdge → ℕ → ℕ) (known : Option (List ℕ
 found_room penalty known rows payment own busy height amount found some (inl route) =
     within_room (route_limits payment) penalty known rows payment own busy (request_of payment amount height) found some route.answer.within
 found_room penalty known rows payment own busy height amount found some (inr route) =
-    within_room (route_limits payment) plain known rows payment own busy (request_of payment amount height) found some route.answer.within
+    within_room (route_limits payment) plain known rows payment own busy (request_of payment amount height) found some route.route.answer.within

@@ -91,14 +91,14 @@ answer_falls penalty payment edges height amount found answer =
 pub found_sends : (penalty : PointEdge → ℕ → ℕ) (payment : PaymentState) (edges : List PointEdge) (height amount : ℕ) (found : Found)
     → IsFoundFor penalty payment edges height amount found → amount ≤ sent found.route
 found_sends penalty payment edges height amount found (inl route) = answer_sends penalty payment edges height amount found route.answer
-found_sends penalty payment edges height amount found (inr route) = answer_sends plain payment edges height amount found route.answer
+found_sends penalty payment edges height amount found (inr route) = answer_sends plain payment edges height amount found route.route.answer
 
 pub found_fee : (penalty : PointEdge → ℕ → ℕ) (payment : PaymentState) (edges : List PointEdge) (height amount : ℕ) (found : Found)
     → IsFoundFor penalty payment edges height amount found → sent found.route - amount + fees payment ≤ payment.bounds.most_fee
 found_fee penalty payment edges height amount found (inl route) = route.fee
-found_fee penalty payment edges height amount found (inr route) = route.fee
+found_fee penalty payment edges height amount found (inr route) = route.route.fee
 
 pub found_falls : (penalty : PointEdge → ℕ → ℕ) (payment : PaymentState) (edges : List PointEdge) (height amount : ℕ) (found : Found)
     → IsFoundFor penalty payment edges height amount found → expiry found.route ≤ height + payment.bounds.most_blocks
 found_falls penalty payment edges height amount found (inl route) = answer_falls penalty payment edges height amount found route.answer
-found_falls penalty payment edges height amount found (inr route) = answer_falls plain payment edges height amount found route.answer
+found_falls penalty payment edges height amount found (inr route) = answer_falls plain payment edges height amount found route.route.answer

@@ -124,10 +124,18 @@ pub record IsRouteFor (penalty : PointEdge → ℕ → ℕ) (payment : PaymentSt
 abbrev pub plain : PointEdge → ℕ → ℕ
 plain = penalty_at no_preferences []
 
+-- the cheapest route, where the one that its payer prefers has a fee beyond the bound
+pub record IsCheapestFor (penalty : PointEdge → ℕ → ℕ) (payment : PaymentState) (edges : List PointEdge) (height amount : ℕ)
+    (found : Found) : Type 0 where
+  pub dear : Found
+  pub preferred : IsAnswerFor penalty payment edges height amount (Ok dear)
+  pub beyond : payment.bounds.most_fee < sent dear.route - amount + fees payment
+  pub route : IsRouteFor plain payment edges height amount found
+
 -- the route of a part: by what its payer prefers, or else the cheapest one
 abbrev pub IsFoundFor : (PointEdge → ℕ → ℕ) → PaymentState → List PointEdge → ℕ → ℕ → Found → Type 0
 IsFoundFor penalty payment edges height amount found =
-    IsRouteFor penalty payment edges height amount found ⊎ IsRouteFor plain payment edges height amount found
+    IsRouteFor penalty payment edges height amount found ⊎ IsCheapestFor penalty payment edges height amount found
 
 -- the cheapest route is beyond the bound of the fee
 pub record IsTooDear (payment : PaymentState) (edges : List PointEdge) (height amount fee : ℕ) : Type 0 where
