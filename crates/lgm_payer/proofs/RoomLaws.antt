@@ -1,8 +1,8 @@
 -- Nothing is promised twice: a hop of a route takes no more than what is left beside what is under way.
 use Rattle.std.proofs.Common.{◌≡◌, ◌⊎◌, inl, inr, ℕ, ◌-◌, ◌*◌, ◌^◌, ◌≤◌, Bool, true, false, ◌&&◌, List, [], ◌∷◌, ◌++◌, Option, Some, None}
-use Rattle.std.proofs.Common.{zero, suc, refl, sym, ap, subst, ◌∙◌, arith, Ok}
+use Rattle.std.proofs.Common.{not, zero, suc, true≢false, ◌||◌, refl, sym, ap, subst, ◌∙◌, arith, Ok}
 use Rattle.std.specs.Prelude.{◌==◌, fold, map, filter, min, if◌then◌else◌}
-use Rattle.std.specs.List.{filter_map, cons_option}
+use Rattle.std.specs.List.{filter_map, cons_option, list_any}
 use Rattle.std.specs.Option.{option_and_then}
 use Rattle.std.proofs.lemmas.Bool.{and_parts, eqb-true, eq-eqb, leb-true}
 use Rattle.std.proofs.lemmas.List.Sums.{sum_by-cons}
@@ -15,15 +15,15 @@ use Rattle.lgm_graph.specs.declared.overlay.ExtraEdge.{ExtraEdge}
 use Rattle.lgm_graph.specs.declared.overlay.Limit.{Limit}
 use Rattle.lgm_graph.specs.declared.route.Hop.{Hop}
 use Rattle.lgm_graph.specs.Edges.{PointEdge, edge_on, edge_in, edge_of, can_carry, carrying, takes_payments}
-use Rattle.lgm_graph.specs.Overlay.{extra_edge, is_named, with_first, firsts, is_used, at_most, most_of, limited, laid_over}
-use Rattle.lgm_graph.proofs.Members.{Among, Among-Contains, Contains-Among, Among-either, Among-left, Among-passed, Among-mapped, Among-flat}
+use Rattle.lgm_graph.specs.Overlay.{extra_edge, has_key, is_named, with_first, firsts, is_used, at_most, most_of, limited, laid_over}
+use Rattle.lgm_graph.proofs.Members.{Among, Among-Contains, Contains-Among, Among-either, Among-left, Among-passed, Among-mapped, Among-map, Among-flat}
 use Rattle.lgm_route.specs.declared.request.Request.{Request}
 use Rattle.lgm_route.specs.declared.limits.RouteLimits.{RouteLimits}
 use Rattle.lgm_route.specs.declared.found.Found.{Found}
 use Rattle.lgm_route.specs.Routes.{owed, hops_of, IsRest}
 use Rattle.lgm_route.specs.Preferred.{IsSomeRoute}
 use Rattle.lgm_payer.specs.Payments.{PaymentState}
-use Rattle.lgm_payer.specs.Overlays.{over, carried_over, spared, capacity_limit, capacity_limits, listed, limits_left, overlay_of, HasRoom, HaveRoom}
+use Rattle.lgm_payer.specs.Overlays.{over, carried_over, spared, capacity_limit, capacity_limits, listed, limits_left, overlay_of, IsUnnamed, HasRoom, HaveRoom}
 use Rattle.lgm_payer.specs.Searches.{edges_for, route_limits, request_of, plain, IsAnswerWithin, IsFoundFor}
 use Rattle.lgm_payer.proofs.RouteLaws.{owed_more}
 
@@ -191,13 +191,33 @@ extra_room rows limits extra busy edge amount there some fits =
     ap (λ n. carried_over busy n own.0.from) scid ∙ ap (λ (p : Point). carried_over busy edge.scid p) from in
     inl (own.0, Contains-Among extra own.0 own.1, scid, from, omega arith)
 
+any_among : {X : Type 0} (p : X → Bool) (xs : List X) (x : X) → Among xs x → p x ≡ true → list_any p xs ≡ true
+any_among p [] x none is = absurd none
+any_among p (y ∷ ys) x (inl same) is = let own : p y ≡ true = ap p same ∙ is in rw own refl
+any_among p (y ∷ ys) x (inr more) is = by (any_among p ys x more is) (p y)
+  where
+    by : list_any p ys ≡ true → (b : Bool) → (b || list_any p ys) ≡ true
+    by rest true = refl
+    by rest false = rest
+
+-- an edge that none of those beside the map replaces has no name of theirs
+unnamed : (extra : List ExtraEdge) (busy : List Hop) (base : PointEdge)
+    → not (is_named (map (λ edge. extra_edge (spared busy edge)) extra) base) ≡ true → IsUnnamed extra base.scid base.from
+unnamed extra busy base is = λ edge there scid from.
+    let put = λ (edge : ExtraEdge). extra_edge (spared busy edge) in
+    let key : has_key base.scid base.from (put edge) ≡ true =
+    rw (scid, from, is_point-self base.from, eq-eqb base.scid base.scid refl) refl in
+    let named = any_among (has_key base.scid base.from) (map put extra) (put edge)
+    (Among-map put extra edge (Among-Contains extra edge there)) key in
+    true≢false (sym (rw named at is))
+
 -- over an edge of the map, for its channel's capacity
 public_room : (rows : Rows) (others : List Limit) (extra : List ExtraEdge) (busy : List Hop) (edge : PointEdge) (amount : ℕ)
-    → Among (carrying rows) edge → 1 ≤ amount
+    → Among (carrying rows) edge → IsUnnamed extra edge.scid edge.from → 1 ≤ amount
     → amount ≤ most_of (capacity_limits rows busy ++ others) edge.scid edge.from edge.max
     → HasRoom rows extra busy edge.scid edge.from amount
 unfolding left_of
-public_room rows others extra busy edge amount there some fits = by (carried_over busy edge.scid edge.from) refl
+public_room rows others extra busy edge amount there bare some fits = by (carried_over busy edge.scid edge.from) refl
   where
     own : HasCapacity rows edge
     own = carrying_fits rows edge there
@@ -206,7 +226,7 @@ public_room rows others extra busy edge amount there some fits = by (carried_ove
     within = most_within (capacity_limits rows busy ++ others) edge.scid edge.from edge.max
 
     by : (carried : ℕ) → carried_over busy edge.scid edge.from ≡ carried → HasRoom rows extra busy edge.scid edge.from amount
-    by zero is = let all = own.fits in let less = within in inr (own.channel, own.there, omega arith)
+    by zero is = let all = own.fits in let less = within in inr (bare, (own.channel, own.there, omega arith))
     by (suc more) is =
         let hop = busy_hop busy edge.scid edge.from (omega arith) in
         let found : channel_of rows.channels hop.0.scid ≡ Some own.channel = ap (channel_of rows.channels) hop.2 ∙ own.there in
@@ -220,7 +240,7 @@ public_room rows others extra busy edge amount there some fits = by (carried_ove
         let alike : carried_over busy hop.0.scid hop.0.from ≡ carried_over busy edge.scid edge.from =
         ap (λ n. carried_over busy n hop.0.from) hop.2 ∙ ap (λ (p : Point). carried_over busy edge.scid p) hop.3 in
         let leaves = limit.4 in
-        inr (own.channel, own.there, omega arith)
+        inr (bare, (own.channel, own.there, omega arith))
 
 -- over an edge of those over which a part is searched for
 edge_room : (known : Option (List ℕ)) (rows : Rows) (payment : PaymentState) (own : List ExtraEdge) (busy : List Hop)
@@ -245,8 +265,10 @@ edge_room known rows payment own busy edge amount there some fits =
         extra_room rows (overlay_of payment rows own busy).limits (own ++ payment.hints) busy base amount
         (firsts_among (overlay_of payment rows own busy).extra base extra) some fits
     by base fits (inr public) =
-        public_room rows (limits_left payment.payer payment.hints payment.parts) (own ++ payment.hints) busy base amount
-        (Among-passed (is_used (overlay_of payment rows own busy)) (carrying rows) base public).0 some fits
+        let passed = Among-passed (is_used (overlay_of payment rows own busy)) (carrying rows) base public in
+        let bare = unnamed (own ++ payment.hints) busy base (and_parts _ _ passed.1).1 in
+        public_room rows (limits_left payment.payer payment.hints payment.parts) (own ++ payment.hints) busy base amount passed.0
+        bare some fits
 
 -- ---- of a route
 

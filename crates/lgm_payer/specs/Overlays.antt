@@ -140,14 +140,18 @@ overlay_of payment rows own busy = record {
 
 -- ---- nothing is promised twice
 
+-- none of these edges has this name
+abbrev pub IsUnnamed : List ExtraEdge → ℕ → Point → Type 0
+IsUnnamed extra scid from = (edge : ExtraEdge) → Contains extra edge → edge.scid ≡ scid → edge.from ≡ from → ⊥
+
 -- there is room over an edge for an amount beside these hops: it is one of the payer's channels or of the hints, with a
--- maximum for both, or its channel has the capacity for both
+-- maximum for both; or none of these, and its channel has the capacity for both
 abbrev pub HasRoom : Rows → List ExtraEdge → List Hop → ℕ → Point → ℕ → Type 0
 HasRoom rows extra busy scid from amount =
     ((edge : ExtraEdge) × Contains extra edge × (edge.scid ≡ scid) × (edge.from ≡ from)
     × (carried_over busy scid from + amount ≤ edge.max))
-    ⊎ ((channel : ChannelRow) × (channel_of rows.channels scid ≡ Some channel)
-    × (carried_over busy scid from + amount ≤ channel.sat * 1000))
+    ⊎ (IsUnnamed extra scid from × ((channel : ChannelRow) × (channel_of rows.channels scid ≡ Some channel)
+    × (carried_over busy scid from + amount ≤ channel.sat * 1000)))
 
 -- there is for each hop of a route
 abbrev pub HaveRoom : Rows → List ExtraEdge → List Hop → List Hop → Type 0
