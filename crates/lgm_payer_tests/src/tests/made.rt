@@ -134,3 +134,10 @@ pub fn sent(
     }
     Ok(sent)
 }
+
+/// Whether a payment is paid, what is left of it, and its fees.
+pub fn state(rt: &impl Abort, payer: &Payer, payment: usize) -> (bool, u64, u64) {
+    assert!(rt; payment < payer.payments().len());
+    let payment = &payer.payments()[payment];
+    (payment.is_paid(), payment.left(), payment.fees())
+}

@@ -1,6 +1,6 @@
 //! Parts, and how they end.
 
-use super::made::{BOUNDS, end, failure, next, payer, payment, sent, two_ways};
+use super::made::{BOUNDS, end, failure, next, payer, payment, sent, state, two_ways};
 use lgm_gossip::Scid;
 use lgm_graph::Estimate;
 use lgm_payer::{Bounds, Ending, Sending, Unpaid};
@@ -31,13 +31,9 @@ fn one_part_arrives(rt: HostRuntime) -> Result<(), Fail> {
         sent(&rt, alloc, &payer, 0)?.as_slice(),
         [(1_000, 13, 2)].as_slice()
     );
-    assert!(rt; !payer.payments()[0].is_paid());
+    assert_eq!(rt; state(&rt, &payer, 0), (false, 0, 13));
     end(&rt, alloc, &mut payer, 0, 0, Ending::Arrived)?;
-    assert!(rt; payer.payments()[0].is_paid());
-    assert_eq!(rt;
-        (payer.payments()[0].left(), payer.payments()[0].fees()),
-        (0, 13)
-    );
+    assert_eq!(rt; state(&rt, &payer, 0), (true, 0, 13));
     assert_eq!(rt; next(&rt, alloc, &mut payer, 0, &map, 2_000), Ok(None));
     Ok(())
 }
