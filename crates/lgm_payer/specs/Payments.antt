@@ -1,5 +1,5 @@
 -- A payment: what is left of it, the amount of its next part, and what the events make of it.
-use Rattle.std.specs.Prelude.{◌≡◌, ℕ, ◌-◌, ◌<◌, ◌≤◌, min, max, List, [], ◌∷◌, ◌++◌, All, length, sum_by, count_by}
+use Rattle.std.specs.Prelude.{◌≡◌, ℕ, ◌+◌, ◌-◌, ◌<◌, ◌≤◌, min, max, List, [], ◌∷◌, ◌++◌, All, length, sum_by, count_by}
 use Rattle.std.specs.Prelude.{Some, None, slice_get, slice_set, if◌then◌else◌}
 use Rattle.std.specs.Int.{div_ceil}
 use Rattle.lgm_wire.specs.declared.point.Point.{Point}
@@ -91,4 +91,5 @@ pub record KeepsBounds (invoice : Invoice) (bounds : Bounds) (parts : List Part)
   pub few : count_by is_held parts ≤ most_at_once invoice bounds
   pub tries : length parts ≤ bounds.most_tries
   pub in_time : All (λ part. part.blocks ≤ bounds.most_blocks) parts
+  pub sends : All (λ part. sent part.route ≡ part.amount + part.fee) parts
   pub spare : sum_by held_amount parts < invoice.amount → count_by is_held parts < most_at_once invoice bounds
