@@ -1,6 +1,7 @@
 -- A payment: what is left of it, the amount of its next part, and what the events make of it.
 use Rattle.std.specs.Prelude.{◌≡◌, ℕ, ◌+◌, ◌-◌, ◌<◌, ◌≤◌, min, max, List, [], ◌∷◌, ◌++◌, All, length, sum_by, count_by}
-use Rattle.std.specs.Prelude.{Some, None, slice_get, slice_set, if◌then◌else◌}
+use Rattle.std.specs.Prelude.{Bool, false, Some, None, slice_get, slice_set, if◌then◌else◌}
+use Rattle.std.specs.Option.{option_map_or}
 use Rattle.std.specs.Int.{div_ceil}
 use Rattle.lgm_wire.specs.declared.point.Point.{Point}
 use Rattle.lgm_graph.specs.declared.overlay.ExtraEdge.{ExtraEdge}
@@ -10,7 +11,7 @@ use Rattle.lgm_payer.specs.declared.invoice.Invoice.{Invoice}
 use Rattle.lgm_payer.specs.declared.bounds.Bounds.{Bounds}
 use Rattle.lgm_payer.specs.declared.ending.Ending.{Ending}
 use Rattle.lgm_payer.specs.declared.part.Part.{Part}
-use Rattle.lgm_payer.specs.Parts.{is_held, held_amount, held_fee, arrived_amount}
+use Rattle.lgm_payer.specs.Parts.{is_under_way, is_held, held_amount, held_fee, arrived_amount}
 
 -- who pays what, within which bounds; no part is to have more than most_part; and all parts that were ever sent
 pub record PaymentState : Type 0 where
@@ -74,6 +75,10 @@ part_of route amount height = record {
 -- a part was sent, where none was to have more than this
 abbrev pub with_sent : ℕ → Part → PaymentState → PaymentState
 with_sent most part payment = record payment { most_part = most; parts = payment.parts ++ part ∷ [] }
+
+-- the part at a place is under way
+abbrev pub is_under_way_at : ℕ → PaymentState → Bool
+is_under_way_at place payment = option_map_or is_under_way (slice_get payment.parts place) false
 
 -- the part at a place ended
 pub record IsEnded (place : ℕ) (ending : Ending) (old new : PaymentState) : Type 0 where

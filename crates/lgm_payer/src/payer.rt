@@ -3,7 +3,7 @@
 ghost use Rattle.std.specs.Prelude.{◌≡◌, ◌↔◌, ◌++◌, ◌∷◌, ◌+◌, ◌*◌, ◌^◌, ◌<◌, [], None, Ok, Some, length, slice_get, IfOk, IfErr, IfSome, OnOk, OnErr};
 ghost use Rattle.std.specs.Bool.{OnFalse, OnTrue};
 ghost use Rattle.lgm_graph.specs.Graph.{IsGraphOf};
-ghost use Rattle.lgm_payer.specs.Payments.{left};
+ghost use Rattle.lgm_payer.specs.Payments.{left, is_under_way_at};
 ghost use Rattle.lgm_payer.specs.Payers.{all_busy, IsSentIn, IsUnpaidIn, IsEndedIn};
 
 use crate::carried::add_all_under_way;
@@ -124,6 +124,8 @@ impl Payer {
         ending: Ending,
     ) -> Result<bool, AllocError>
         requires { payment < length self.old.payments }
+        ensures is { IfOk result (λ is. IfSome (slice_get self.old.payments payment) (λ payment.
+            is ≡ is_under_way_at place payment)) }
         ensures ended { IfOk result (λ is. OnTrue is (IsEndedIn self.old self.new payment place ending)) }
         ensures idle { IfOk result (λ is. OnFalse is (self.new ≡ self.old)) }
         ensures stays { OnErr result (self.new ≡ self.old) }

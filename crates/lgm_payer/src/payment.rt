@@ -13,7 +13,7 @@ ghost use Rattle.lgm_payer.specs.Overlays.{overlay_of};
 ghost use Rattle.lgm_payer.specs.Searches.{refusal_of, request_of, route_limits, edges_for, halved};
 ghost use Rattle.lgm_payer.specs.Searches.{IsAnswerFor, IsFoundFor, IsReason, IsOffered, IsLast, IsUnpaid, IsSent};
 ghost use Rattle.lgm_payer.specs.Parts.{held_amount, held_fee, arrived_amount};
-ghost use Rattle.lgm_payer.specs.Payments.{KeepsBounds, IsShare, IsPaid, IsEnded, left, fees, parts_left, pieces, next_amount, part_of, with_sent, most_at_once};
+ghost use Rattle.lgm_payer.specs.Payments.{KeepsBounds, IsShare, IsPaid, IsEnded, is_under_way_at, left, fees, parts_left, pieces, next_amount, part_of, with_sent, most_at_once};
 
 use crate::bounds::Bounds;
 use crate::ending::Ending;
@@ -490,6 +490,7 @@ impl Payment {
 
     /// The part at a place ended. If it isn't under way, nothing changes, and the result is false.
     pub fn end(&mut self, place: usize, ending: Ending) -> bool
+        ensures is { result ≡ is_under_way_at place self.old }
         ensures ended { OnTrue result (IsEnded place ending self.old self.new) }
         ensures stays { OnFalse result (self.new ≡ self.old) }
     {
