@@ -1,5 +1,6 @@
-pub mod PartLaws
 pub mod RouteLaws
+pub mod ProspectLaws
 pub mod RoomLaws
-pub mod LessonLaws
 pub mod PayerLaws
+pub mod ChoiceLaws
+pub mod HistoryLaws

@@ -1,121 +1,110 @@
 -- What a call about one payment makes of its payer.
-use Rattle.std.proofs.Common.{◌≡◌, ℕ, ◌<◌, Bool, List, length, get_or, Option, Some, None, Result, Ok, Err, refl, sym, ap, subst, ◌∙◌}
-use Rattle.std.specs.Prelude.{slice_get, slice_set, IfOk, IfErr, IfSome, OnErr}
-use Rattle.std.proofs.Math.Path.{fun_ext}
-use Rattle.std.proofs.lemmas.List.{set-get_or}
-use Rattle.std.proofs.lemmas.Option.{slice_get-get_or}
-use Rattle.lgm_store.specs.Rows.{Rows}
-use Rattle.lgm_graph.specs.declared.estimate.Estimate.{Estimate}
-use Rattle.lgm_graph.specs.declared.overlay.ExtraEdge.{ExtraEdge}
-use Rattle.lgm_graph.specs.declared.route.Hop.{Hop}
-use Rattle.lgm_graph.specs.Edges.{PointEdge}
+use Rattle.std.proofs.Common.{◌≡◌, ◌∙◌, ℕ, ◌+◌, Bool, List, Option, Result, Ok, Err, refl, sym, ap, subst, inl, inr}
+use Rattle.std.specs.Prelude.{slice_set, IfErr}
+use Rattle.lgm_wire.specs.declared.point.Point.{Point}
+use Rattle.lgm_wire.specs.reading.Reading.{Gives}
 use Rattle.lgm_graph.specs.Estimates.{Entries}
-use Rattle.lgm_route.specs.declared.preferences.Preferences.{Preferences}
-use Rattle.lgm_route.specs.Odds.{penalty_by}
-use Rattle.lgm_route.specs.Preferred.{penalty_at}
-use Rattle.lgm_payer.specs.declared.ending.Ending.{Ending}
+use Rattle.lgm_graph.specs.declared.route.Hop.{Hop}
+use Rattle.lgm_route.specs.declared.fault.RouteFault.TheVariants.{NoMemory}
+use Rattle.lgm_route.specs.declared.found.SearchFault.TheVariants.{Fault}
+use Rattle.lgm_payload.specs.Arrival.{ArrivalParts}
+use Rattle.lgm_payload.specs.declared.arrival_fault.ArrivalFault.TheVariants as arrivals
 use Rattle.lgm_payer.specs.declared.offer.Sending.{Sending}
+use Rattle.lgm_payer.specs.declared.part.Part.{Part}
 use Rattle.lgm_payer.specs.declared.unpaid.Unpaid.{Unpaid}
-use Rattle.lgm_payer.specs.Payments.{PaymentState, IsEnded}
-use Rattle.lgm_payer.specs.Searches.{IsSent, IsUnpaid, edges_for}
-use Rattle.lgm_payer.specs.Learning.{AreTaught, learnt_from, left_beside, penalty_beside}
-use Rattle.lgm_payer.specs.Payers.{PayerState, all_busy, IsSentIn, IsUnpaidIn, IsEndedIn}
+use Rattle.lgm_payer.specs.declared.unfound.Unfound.TheVariants as unfound
+use Rattle.lgm_payer.specs.declared.unpaid.Unpaid.TheVariants as unpaid
+use Rattle.lgm_payload.specs.Building.{built_for}
+use Rattle.lgm_odds.specs.Lessons.{believed}
+use Rattle.lgm_odds.specs.RouteOdds.{route_odds}
+use Rattle.lgm_payer.specs.declared.offer.Offer.{Offer}
+use Rattle.lgm_payer.specs.Parts.{part_of}
+use Rattle.lgm_payer.specs.Payments.{PaymentState, with_sent}
+use Rattle.lgm_payer.specs.UnderWay.{all_under_way, all_since}
+use Rattle.lgm_payer.specs.Overlays.{extra_of, limits_of}
+use Rattle.lgm_payer.specs.Preferring.{preferences_for}
+use Rattle.lgm_payer.specs.Searches.{IsOffered, penalty_with}
+use Rattle.lgm_payer.specs.Payers.{PayerState, Seen, IsPayment, IsSentIn, IsUnpaidIn, prospect_in}
+use Rattle.lgm_payer.specs.Looking.{IsReady}
+use Rattle.lgm_payer.proofs.RoomLaws.{found_room}
 
--- the payment at a place is the one that was lent
-pub lent_there : (payments : List PaymentState) (place : ℕ) (before : PaymentState) → place < length payments
-    → before ≡ get_or payments place before → slice_get payments place ≡ Some before
-lent_there payments place before lt is =
-    slice_get-get_or payments place before lt ∙ ap (λ (p : PaymentState). Some p) (sym is)
-
--- a payment that is as it was leaves its payer so
-pub same_payer : (payments : List PaymentState) (learnt : Entries) (place : ℕ) (before after : PaymentState)
-    → before ≡ get_or payments place before → after ≡ before
-    → let new : PayerState = record { payments = slice_set payments place after; learnt = learnt } in
-    let old : PayerState = record { payments = payments; learnt = learnt } in new ≡ old
-same_payer payments learnt place before after is same =
-    ap (λ (list : List PaymentState). let payer : PayerState = record { payments = list; learnt = learnt } in payer)
-    (ap (λ (p : PaymentState). slice_set payments place p) (same ∙ is) ∙ set-get_or payments place before)
-
--- penalties by estimates that were lowered by what is under way
-penalties_beside : (preferences : Preferences) (learnt known : Entries) (busy : List Hop) → AreTaught (left_beside busy) learnt known
-    → penalty_at preferences known ≡ penalty_beside preferences learnt busy
-penalties_beside preferences learnt known busy taught =
-    fun_ext (λ (edge : PointEdge). fun_ext (λ amount.
-    ap (λ (e : Estimate). penalty_by preferences.failure_msat preferences.hop_msat e edge.max amount) (taught edge.scid edge.from)))
-
--- a part that a payment sent
-pub sent_in : (preferences : Preferences) (bits : Option (List ℕ)) (rows : Rows) (own : List ExtraEdge) (height : ℕ)
-    (payments : List PaymentState) (learnt known : Entries) (busy : List Hop) (payment place : ℕ) (is_best : Bool)
-    (before after : PaymentState) → slice_get payments payment ≡ Some before → busy ≡ all_busy payments
-    → AreTaught (left_beside busy) learnt known
-    → IsSent (penalty_at preferences known) bits rows own busy height before after place is_best
-    → IsSentIn preferences bits rows own height (record { payments = payments; learnt = learnt })
-    (record { payments = slice_set payments payment after; learnt = learnt }) payment place is_best
-sent_in preferences bits rows own height payments learnt known busy payment place is_best before after there is taught sends =
+-- a part of a payment was sent over what was offered
+pub sent_in : (seen : Seen) (old new : PayerState) (payment place part odds : ℕ) (is_best : Bool) (payloads : List (List ℕ))
+    (before after : PaymentState) (offer : Offer) → IsPayment old.payments payment place before
+    → IsReady seen old before → IsOffered (prospect_in seen old before) before offer
+    → built_for before.arrival offer.found.route ≡ Ok payloads → part ≡ old.sent → odds ≡ offer.odds
+    → is_best ≡ offer.found.is_best
+    → after ≡ with_sent (part_of part offer.found.route offer.amount seen.height) before
+    → new ≡ record old { payments = slice_set old.payments place after; sent = old.sent + 1 }
+    → IsSentIn seen old new payment part odds is_best payloads
+sent_in seen old new payment place part odds is_best payloads before after offer is ready offered built numbered odd best sent news =
     record {
+      place = place;
       before = before;
-      after = after;
-      there = there;
-      sends =
-          subst (λ (hops : List Hop). IsSent (penalty_beside preferences learnt hops) bits rows own hops height before after place is_best) is
-          (subst (λ (penalty : PointEdge → ℕ → ℕ). IsSent penalty bits rows own busy height before after place is_best)
-          (penalties_beside preferences learnt known busy taught) sends);
-      payments = refl;
-      learnt = refl;
+      offer = offer;
+      is = is;
+      seen_well = ready.seen_well;
+      stays_open = ready.stays_open;
+      unrefused = ready.unrefused;
+      tries = ready.tries;
+      offered = offered;
+      room =
+          let busy = all_under_way old.payments in
+          let since = all_since seen.reckoned old.payments in
+          found_room seen.rows before seen.own since busy seen.known
+          (penalty_with (preferences_for seen.preferences before) (believed old.learnt busy))
+          (route_odds seen.rows (extra_of before seen.own since busy) (limits_of before seen.rows busy) (believed old.learnt busy))
+          seen.height offer.amount offer.found offered.fit.share.some offered.fit.route;
+      payloads_are = built;
+      number = numbered;
+      odds_are = odd;
+      best_is = best;
+      sends = news ∙ ap (λ (p : PaymentState). let payer : PayerState =
+          record old { payments = slice_set old.payments place p; sent = old.sent + 1 } in payer) sent;
     }
 
-pub answer_in : (preferences : Preferences) (bits : Option (List ℕ)) (rows : Rows) (own : List ExtraEdge) (height : ℕ)
-    (payments : List PaymentState) (learnt known : Entries) (busy : List Hop) (payment : ℕ)
-    (before after : PaymentState) (answer : Result (Option Sending) Unpaid)
-    → slice_get payments payment ≡ Some before → busy ≡ all_busy payments → AreTaught (left_beside busy) learnt known
-    → IfOk answer (λ next. IfSome next (λ sending.
-    IsSent (penalty_at preferences known) bits rows own busy height before after sending.place sending.is_best))
-    → IfOk answer (λ next. IfSome next (λ sending.
-    IsSentIn preferences bits rows own height (record { payments = payments; learnt = learnt })
-    (record { payments = slice_set payments payment after; learnt = learnt }) payment sending.place sending.is_best))
-answer_in preferences bits rows own height payments learnt known busy payment before after (Ok (Some sending)) there is taught sends =
-    sent_in preferences bits rows own height payments learnt known busy payment sending.place sending.is_best before after there is taught sends
-answer_in preferences bits rows own height payments learnt known busy payment before after (Ok None) there is taught sends = sends
-answer_in preferences bits rows own height payments learnt known busy payment before after (Err reason) there is taught sends = sends
+-- out of memory sends nothing
+pub memory_in : (seen : Seen) (payer : PayerState) (payment place : ℕ) (before : PaymentState) (answer : Result (Option Sending) Unpaid)
+    → IsPayment payer.payments payment place before
+    → IfErr answer (λ reason. reason ≡ unpaid.Unfound (unfound.Search (Fault NoMemory)))
+    → IfErr answer (IsUnpaidIn seen payer payment)
+memory_in seen payer payment place before (Ok next) is memory = tt
+memory_in seen payer payment place before (Err reason) is memory =
+    subst (λ (r : Unpaid). IsUnpaidIn seen payer payment r) (sym memory) (inr (place, (before, is, inl refl)))
 
--- an error that leaves a payment leaves its payer
-pub error_stays : (P Q : Type 0) (answer : Result (Option Sending) Unpaid) → (P → Q) → OnErr answer P → OnErr answer Q
-error_stays P Q (Ok next) then stays = stays
-error_stays P Q (Err reason) then stays = then stays
+-- payloads that were built
+pub built_at : (arrival given : ArrivalParts) (route : List Hop) (payloads : List (List ℕ)) → given ≡ arrival
+    → Gives arrivals.NoMemory (λ payloads. payloads) (Ok payloads) (built_for given route)
+    → built_for arrival route ≡ Ok payloads
+built_at arrival given route payloads same gives =
+    subst (λ (a : ArrivalParts). built_for a route ≡ Ok payloads) same gives
 
--- a part that ended
-pub ended_in : (payments : List PaymentState) (learnt copied next : Entries) (busy : List Hop) (payment place : ℕ) (ending : Ending)
-    (before after : PaymentState) → slice_get payments payment ≡ Some before → copied ≡ learnt → busy ≡ all_busy payments
-    → IsEnded place ending before after
-    → IfSome (slice_get before.parts place) (λ part.
-    AreTaught (learnt_from before.payer before.hints busy part.route ending) copied next)
-    → IsEndedIn (record { payments = payments; learnt = learnt })
-    (record { payments = slice_set payments payment after; learnt = next }) payment place ending
-ended_in payments learnt copied next busy payment place ending before after there as_it_was is ends taught =
-    let own : AreTaught (learnt_from before.payer before.hints busy ends.part.route ending) copied next = rw ends.there at taught in
-    record {
-      before = before;
-      after = after;
-      there = there;
-      ends = ends;
-      payments = refl;
-      learnt =
-          subst (λ (hops : List Hop). AreTaught (learnt_from before.payer before.hints hops ends.part.route ending) learnt next) is
-          (subst (λ (old : Entries). AreTaught (learnt_from before.payer before.hints busy ends.part.route ending) old next) as_it_was own);
-    }
+-- a part that was sent of a payment that is the same
+pub sends_same : (lent before after : PaymentState) (part : Part) → lent ≡ before → after ≡ with_sent part lent
+    → after ≡ with_sent part before
+sends_same lent before after part same sent = subst (λ (p : PaymentState). after ≡ with_sent part p) same sent
 
--- why a payment sends nothing
-pub unpaid_in : (preferences : Preferences) (bits : Option (List ℕ)) (rows : Rows) (own : List ExtraEdge) (height : ℕ)
-    (payments : List PaymentState) (learnt known : Entries) (busy : List Hop) (payment : ℕ) (before : PaymentState)
-    (answer : Result (Option Sending) Unpaid) → slice_get payments payment ≡ Some before → busy ≡ all_busy payments
-    → AreTaught (left_beside busy) learnt known
-    → IfErr answer (λ reason. IsUnpaid (penalty_at preferences known) before (edges_for bits rows before own busy) height reason)
-    → IfErr answer (λ reason.
-    IsUnpaidIn preferences bits rows own height (record { payments = payments; learnt = learnt }) payment reason)
-unpaid_in preferences bits rows own height payments learnt known busy payment before (Ok next) there is taught why = why
-unpaid_in preferences bits rows own height payments learnt known busy payment before (Err reason) there is taught why =
-    rw there
-    (subst (λ (hops : List Hop).
-    IsUnpaid (penalty_beside preferences learnt hops) before (edges_for bits rows before own hops) height reason) is
-    (subst (λ (penalty : PointEdge → ℕ → ℕ). IsUnpaid penalty before (edges_for bits rows before own busy) height reason)
-    (penalties_beside preferences learnt known busy taught) why))
+-- the payer once a part was sent
+pub new_payer : (point : Point) (payments : List PaymentState) (learnt : Entries) (begun sent settled place next : ℕ) (after : PaymentState)
+    (old : PayerState)
+    → let inside : PayerState = record { point = point; payments = payments; learnt = learnt; begun = begun; sent = sent; settled = settled } in
+    inside ≡ old → next ≡ sent + 1
+    → let new : PayerState = record {
+      point = point;
+      payments = slice_set payments place after;
+      learnt = learnt;
+      begun = begun;
+      sent = next;
+      settled = settled;
+    } in
+    new ≡ record old { payments = slice_set old.payments place after; sent = old.sent + 1 }
+new_payer point payments learnt begun sent settled place next after old is more =
+    ap (λ n. let new : PayerState = record {
+      point = point;
+      payments = slice_set payments place after;
+      learnt = learnt;
+      begun = begun;
+      sent = n;
+      settled = settled;
+    } in new) more
+    ∙ ap (λ (p : PayerState). let new : PayerState = record p { payments = slice_set p.payments place after; sent = p.sent + 1 } in new) is

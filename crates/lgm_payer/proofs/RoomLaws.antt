@@ -15,16 +15,17 @@ use Rattle.lgm_graph.specs.declared.overlay.ExtraEdge.{ExtraEdge}
 use Rattle.lgm_graph.specs.declared.overlay.Limit.{Limit}
 use Rattle.lgm_graph.specs.declared.route.Hop.{Hop}
 use Rattle.lgm_graph.specs.Edges.{PointEdge, edge_on, edge_in, edge_of, can_carry, carrying, takes_payments}
-use Rattle.lgm_graph.specs.Overlay.{extra_edge, has_key, is_named, with_first, firsts, is_used, at_most, most_of, limited, laid_over}
-use Rattle.lgm_graph.proofs.Members.{Among, Among-Contains, Contains-Among, Among-either, Among-left, Among-passed, Among-mapped, Among-map, Among-flat}
+use Rattle.lgm_graph.specs.Overlay.{extra_edge, has_key, is_named, with_first, firsts, is_used, at_most, most_of, limited, laid_over, overlaid_edges}
+use Rattle.lgm_graph.proofs.Members.{Among, Among-Contains, Contains-Among, Among-either, Among-left, Among-right, Among-passed, Among-mapped, Among-map, Among-flat}
 use Rattle.lgm_route.specs.declared.request.Request.{Request}
 use Rattle.lgm_route.specs.declared.limits.RouteLimits.{RouteLimits}
 use Rattle.lgm_route.specs.declared.found.Found.{Found}
 use Rattle.lgm_route.specs.Routes.{owed, hops_of, IsRest}
-use Rattle.lgm_route.specs.Preferred.{IsSomeRoute}
+use Rattle.lgm_route.specs.Preferred.{IsSomeRoute, penalty_at, no_preferences}
 use Rattle.lgm_payer.specs.Payments.{PaymentState}
-use Rattle.lgm_payer.specs.Overlays.{over, carried_over, spared, capacity_limit, capacity_limits, listed, limits_left, overlay_of, IsUnnamed, HasRoom, HaveRoom}
-use Rattle.lgm_payer.specs.Searches.{edges_for, route_limits, request_of, plain, IsAnswerWithin, IsFoundFor}
+use Rattle.lgm_odds.specs.Carried.{over, carried_over}
+use Rattle.lgm_payer.specs.Overlays.{spared, extra_of, capacity_limit, capacity_limits, listed, limits_left, all_silenced, overlay_of, IsUnnamed, HasRoomIn, HasRoom, HaveRoom}
+use Rattle.lgm_payer.specs.Searches.{route_limits, request_of, IsAnswerWithin, IsFoundFor}
 use Rattle.lgm_payer.proofs.RouteLaws.{owed_more}
 
 -- ---- limits
@@ -161,35 +162,34 @@ busy_hop (hop ∷ busy) scid from some = by (hop.scid == scid && is_point hop.fr
         let rest = others (omega arith) in
         (rest.0, inr rest.1, rest.2, rest.3)
 
--- the limit that its channel's capacity leaves is among the limits
-module _ (rows : Rows) (busy : List Hop) where
+-- the limit that its channel's capacity leaves is among the limits, where the hop isn't the payer's
+module _ (rows : Rows) (payer : Point) (busy : List Hop) where
   left_of : ChannelRow → ℕ → Point → ℕ
   left_of channel scid from = min (2 ^ 64 - 1) (channel.sat * 1000) - carried_over busy scid from
 
-  capacity_among : (channel : ChannelRow) (hop : Hop) → Among busy hop → channel_of rows.channels hop.scid ≡ Some channel
-      → (limit : Limit) × Among (capacity_limits rows busy) limit × (limit.scid ≡ hop.scid) × (limit.from ≡ hop.from)
+  capacity_among : (channel : ChannelRow) (hop : Hop) → Among busy hop → is_point hop.from payer ≡ false
+      → channel_of rows.channels hop.scid ≡ Some channel
+      → (limit : Limit) × Among (capacity_limits rows payer busy) limit × (limit.scid ≡ hop.scid) × (limit.from ≡ hop.from)
       × (limit.most ≡ left_of channel hop.scid hop.from)
   unfolding left_of
-  capacity_among channel hop there found =
+  capacity_among channel hop there other found =
       let limit : Limit = record { scid = hop.scid; from = hop.from; most = left_of channel hop.scid hop.from } in
-      let own : listed (capacity_limit rows busy hop) ≡ limit ∷ [] = rw found refl in
-      (limit, Among-flat (λ hop. listed (capacity_limit rows busy hop)) busy hop limit there (rw own (inl refl)), refl, refl, refl)
+      let own : listed (capacity_limit rows payer busy hop) ≡ limit ∷ [] = rw (other, found) refl in
+      (limit, Among-flat (λ hop. listed (capacity_limit rows payer busy hop)) busy hop limit there (rw own (inl refl)), refl, refl, refl)
 
 -- ---- room
 
--- over an edge beside the map, for what it carries at most beside the hops
-extra_room : (rows : Rows) (limits : List Limit) (extra : List ExtraEdge) (busy : List Hop) (edge : PointEdge) (amount : ℕ)
-    → Among (map (λ edge. extra_edge (spared busy edge)) extra) edge → 1 ≤ amount
-    → amount ≤ most_of limits edge.scid edge.from edge.max → HasRoom rows extra busy edge.scid edge.from amount
-extra_room rows limits extra busy edge amount there some fits =
-    let own = Among-mapped (λ edge. extra_edge (spared busy edge)) extra edge there in
-    let within = most_within limits edge.scid edge.from edge.max in
-    let scid : own.0.scid ≡ edge.scid = ap (λ (e : PointEdge). e.scid) own.2 in
-    let from : own.0.from ≡ edge.from = ap (λ (e : PointEdge). e.from) own.2 in
-    let max : own.0.max - carried_over busy own.0.scid own.0.from ≡ edge.max = ap (λ (e : PointEdge). e.max) own.2 in
-    let alike : carried_over busy own.0.scid own.0.from ≡ carried_over busy edge.scid edge.from =
-    ap (λ n. carried_over busy n own.0.from) scid ∙ ap (λ (p : Point). carried_over busy edge.scid p) from in
-    inl (own.0, Contains-Among extra own.0 own.1, scid, from, omega arith)
+-- an edge that is laid with what is left of it beside hops has room for what it carries at most
+spared_room : (extra : List ExtraEdge) (busy : List Hop) (laid : ExtraEdge) (amount : ℕ) → Among (map (spared busy) extra) laid
+    → 1 ≤ amount → amount ≤ laid.max → HasRoomIn extra busy laid.scid laid.from amount
+spared_room extra busy laid amount there some fits =
+    let own = Among-mapped (spared busy) extra laid there in
+    let scid : own.0.scid ≡ laid.scid = ap (λ (e : ExtraEdge). e.scid) own.2 in
+    let from : own.0.from ≡ laid.from = ap (λ (e : ExtraEdge). e.from) own.2 in
+    let max : own.0.max - carried_over busy own.0.scid own.0.from ≡ laid.max = ap (λ (e : ExtraEdge). e.max) own.2 in
+    let alike : carried_over busy own.0.scid own.0.from ≡ carried_over busy laid.scid laid.from =
+    ap (λ n. carried_over busy n own.0.from) scid ∙ ap (λ (p : Point). carried_over busy laid.scid p) from in
+    (own.0, Contains-Among extra own.0 own.1, scid, from, omega arith)
 
 any_among : {X : Type 0} (p : X → Bool) (xs : List X) (x : X) → Among xs x → p x ≡ true → list_any p xs ≡ true
 any_among p [] x none is = absurd none
@@ -200,113 +200,174 @@ any_among p (y ∷ ys) x (inr more) is = by (any_among p ys x more is) (p y)
     by rest true = refl
     by rest false = rest
 
--- an edge that none of those beside the map replaces has no name of theirs
-unnamed : (extra : List ExtraEdge) (busy : List Hop) (base : PointEdge)
-    → not (is_named (map (λ edge. extra_edge (spared busy edge)) extra) base) ≡ true → IsUnnamed extra base.scid base.from
-unnamed extra busy base is = λ edge there scid from.
-    let put = λ (edge : ExtraEdge). extra_edge (spared busy edge) in
-    let key : has_key base.scid base.from (put edge) ≡ true =
-    rw (scid, from, is_point-self base.from, eq-eqb base.scid base.scid refl) refl in
-    let named = any_among (has_key base.scid base.from) (map put extra) (put edge)
-    (Among-map put extra edge (Among-Contains extra edge there)) key in
-    true≢false (sym (rw named at is))
+-- of a payment
+module _ (rows : Rows) (payment : PaymentState) (own : List ExtraEdge) (since busy : List Hop) where
+  -- over an edge beside the map, for what it carries at most
+  extra_room : (limits : List Limit) (edge : PointEdge) (amount : ℕ)
+      → Among (map extra_edge (extra_of payment own since busy)) edge → 1 ≤ amount
+      → amount ≤ most_of limits edge.scid edge.from edge.max → HasRoom rows own payment.hints since busy edge.scid edge.from amount
+  extra_room limits edge amount there some fits =
+      let laid = Among-mapped extra_edge (extra_of payment own since busy) edge there in
+      let within = most_within limits edge.scid edge.from edge.max in
+      let scid : laid.0.scid ≡ edge.scid = ap (λ (e : PointEdge). e.scid) laid.2 in
+      let from : laid.0.from ≡ edge.from = ap (λ (e : PointEdge). e.from) laid.2 in
+      let max : laid.0.max ≡ edge.max = ap (λ (e : PointEdge). e.max) laid.2 in
+      let room = by laid.0 (omega arith) (Among-either (map (spared since) own) (map (spared busy) payment.hints) laid.0 laid.1) in
+      subst (λ (p : Point). HasRoom rows own payment.hints since busy edge.scid p amount) from
+      (subst (λ n. HasRoom rows own payment.hints since busy n laid.0.from amount) scid room)
+    where
+      by : (laid : ExtraEdge) → amount ≤ laid.max
+          → Among (map (spared since) own) laid ⊎ Among (map (spared busy) payment.hints) laid
+          → HasRoom rows own payment.hints since busy laid.scid laid.from amount
+      by laid fits (inl first) = inl (spared_room own since laid amount first some fits)
+      by laid fits (inr second) = inr (inl (spared_room payment.hints busy laid amount second some fits))
 
--- over an edge of the map, for its channel's capacity
-public_room : (rows : Rows) (others : List Limit) (extra : List ExtraEdge) (busy : List Hop) (edge : PointEdge) (amount : ℕ)
-    → Among (carrying rows) edge → IsUnnamed extra edge.scid edge.from → 1 ≤ amount
-    → amount ≤ most_of (capacity_limits rows busy ++ others) edge.scid edge.from edge.max
-    → HasRoom rows extra busy edge.scid edge.from amount
-unfolding left_of
-public_room rows others extra busy edge amount there bare some fits = by (carried_over busy edge.scid edge.from) refl
-  where
-    own : HasCapacity rows edge
-    own = carrying_fits rows edge there
+  -- an edge that none of those beside the map replaces has no name of theirs
+  unnamed : (base : PointEdge) → not (is_named (map extra_edge (extra_of payment own since busy)) base) ≡ true
+      → IsUnnamed (own ++ payment.hints) base.scid base.from
+  unnamed base is = λ edge there scid from.
+      let named = by edge scid from (Among-either own payment.hints edge (Among-Contains (own ++ payment.hints) edge there)) in
+      true≢false (sym (rw named at is))
+    where
+      key : (laid : ExtraEdge) → laid.scid ≡ base.scid → laid.from ≡ base.from → Among (extra_of payment own since busy) laid
+          → is_named (map extra_edge (extra_of payment own since busy)) base ≡ true
+      key laid scid from there =
+          let same : has_key base.scid base.from (extra_edge laid) ≡ true =
+          rw (scid, from, is_point-self base.from, eq-eqb base.scid base.scid refl) refl in
+          any_among (has_key base.scid base.from) (map extra_edge (extra_of payment own since busy)) (extra_edge laid)
+          (Among-map extra_edge (extra_of payment own since busy) laid there) same
 
-    within : most_of (capacity_limits rows busy ++ others) edge.scid edge.from edge.max ≤ edge.max
-    within = most_within (capacity_limits rows busy ++ others) edge.scid edge.from edge.max
+      by : (edge : ExtraEdge) → edge.scid ≡ base.scid → edge.from ≡ base.from → Among own edge ⊎ Among payment.hints edge
+          → is_named (map extra_edge (extra_of payment own since busy)) base ≡ true
+      by edge scid from (inl first) =
+          key (spared since edge) scid from
+          (Among-left (map (spared since) own) (map (spared busy) payment.hints) (spared since edge)
+          (Among-map (spared since) own edge first))
+      by edge scid from (inr second) =
+          key (spared busy edge) scid from
+          (Among-right (map (spared since) own) (map (spared busy) payment.hints) (spared busy edge)
+          (Among-map (spared busy) payment.hints edge second))
 
-    by : (carried : ℕ) → carried_over busy edge.scid edge.from ≡ carried → HasRoom rows extra busy edge.scid edge.from amount
-    by zero is = let all = own.fits in let less = within in inr (bare, (own.channel, own.there, omega arith))
-    by (suc more) is =
-        let hop = busy_hop busy edge.scid edge.from (omega arith) in
-        let found : channel_of rows.channels hop.0.scid ≡ Some own.channel = ap (channel_of rows.channels) hop.2 ∙ own.there in
-        let limit = capacity_among rows busy own.channel hop.0 hop.1 found in
-        let scid : limit.0.scid ≡ edge.scid = limit.2 ∙ hop.2 in
-        let from : limit.0.from ≡ edge.from = limit.3 ∙ hop.3 in
-        let key : (limit.0.scid == edge.scid && is_point edge.from limit.0.from) ≡ true =
-        rw (scid, from, is_point-self edge.from, eq-eqb edge.scid edge.scid refl) refl in
-        let below = most_limit (capacity_limits rows busy ++ others) edge.scid edge.from edge.max limit.0
-        (Among-left (capacity_limits rows busy) others limit.0 limit.1) key in
-        let alike : carried_over busy hop.0.scid hop.0.from ≡ carried_over busy edge.scid edge.from =
-        ap (λ n. carried_over busy n hop.0.from) hop.2 ∙ ap (λ (p : Point). carried_over busy edge.scid p) hop.3 in
-        let leaves = limit.4 in
-        inr (bare, (own.channel, own.there, omega arith))
+  -- over an edge of the map, for its channel's capacity
+  public_room : (others : List Limit) (edge : PointEdge) (amount : ℕ) → Among (carrying rows) edge
+      → is_point edge.from payment.payer ≡ false → IsUnnamed (own ++ payment.hints) edge.scid edge.from → 1 ≤ amount
+      → amount ≤ most_of (capacity_limits rows payment.payer busy ++ others) edge.scid edge.from edge.max
+      → HasRoom rows own payment.hints since busy edge.scid edge.from amount
+  unfolding left_of
+  public_room others edge amount there other bare some fits = by (carried_over busy edge.scid edge.from) refl
+    where
+      capacity : HasCapacity rows edge
+      capacity = carrying_fits rows edge there
 
--- over an edge of those over which a part is searched for
-edge_room : (known : Option (List ℕ)) (rows : Rows) (payment : PaymentState) (own : List ExtraEdge) (busy : List Hop)
-    (edge : PointEdge) (amount : ℕ) → Among (edges_for known rows payment own busy) edge → 1 ≤ amount → amount ≤ edge.max
-    → HasRoom rows (own ++ payment.hints) busy edge.scid edge.from amount
-edge_room known rows payment own busy edge amount there some fits =
-    let overlay = overlay_of payment rows own busy in
-    let passed = Among-passed (λ edge. takes_payments known rows.nodes edge.to) (laid_over overlay (carrying rows)) edge there in
-    let laid = Among-mapped (limited overlay.limits) (firsts overlay.extra ++ filter (is_used overlay) (carrying rows)) edge passed.0 in
-    let max : most_of overlay.limits laid.0.scid laid.0.from laid.0.max ≡ edge.max = ap (λ (e : PointEdge). e.max) laid.2 in
-    let scid : laid.0.scid ≡ edge.scid = ap (λ (e : PointEdge). e.scid) laid.2 in
-    let from : laid.0.from ≡ edge.from = ap (λ (e : PointEdge). e.from) laid.2 in
-    let room = by laid.0 (omega arith) (Among-either (firsts overlay.extra) (filter (is_used overlay) (carrying rows)) laid.0 laid.1) in
-    subst (λ (p : Point). HasRoom rows (own ++ payment.hints) busy edge.scid p amount) from
-    (subst (λ n. HasRoom rows (own ++ payment.hints) busy n laid.0.from amount) scid room)
-  where
-    by : (base : PointEdge) → amount ≤ most_of (overlay_of payment rows own busy).limits base.scid base.from base.max
-        → Among (firsts (overlay_of payment rows own busy).extra) base
-        ⊎ Among (filter (is_used (overlay_of payment rows own busy)) (carrying rows)) base
-        → HasRoom rows (own ++ payment.hints) busy base.scid base.from amount
-    by base fits (inl extra) =
-        extra_room rows (overlay_of payment rows own busy).limits (own ++ payment.hints) busy base amount
-        (firsts_among (overlay_of payment rows own busy).extra base extra) some fits
-    by base fits (inr public) =
-        let passed = Among-passed (is_used (overlay_of payment rows own busy)) (carrying rows) base public in
-        let bare = unnamed (own ++ payment.hints) busy base (and_parts _ _ passed.1).1 in
-        public_room rows (limits_left payment.payer payment.hints payment.parts) (own ++ payment.hints) busy base amount passed.0
-        bare some fits
+      within : most_of (capacity_limits rows payment.payer busy ++ others) edge.scid edge.from edge.max ≤ edge.max
+      within = most_within (capacity_limits rows payment.payer busy ++ others) edge.scid edge.from edge.max
 
--- ---- of a route
+      by : (carried : ℕ) → carried_over busy edge.scid edge.from ≡ carried
+          → HasRoom rows own payment.hints since busy edge.scid edge.from amount
+      by zero is =
+          let all = capacity.fits in
+          let less = within in
+          inr (inr (bare, (capacity.channel, capacity.there, omega arith)))
+      by (suc more) is =
+          let hop = busy_hop busy edge.scid edge.from (omega arith) in
+          let found : channel_of rows.channels hop.0.scid ≡ Some capacity.channel = ap (channel_of rows.channels) hop.2 ∙ capacity.there in
+          let elsewhere : is_point hop.0.from payment.payer ≡ false = ap (λ (p : Point). is_point p payment.payer) hop.3 ∙ other in
+          let limit = capacity_among rows payment.payer busy capacity.channel hop.0 hop.1 elsewhere found in
+          let scid : limit.0.scid ≡ edge.scid = limit.2 ∙ hop.2 in
+          let from : limit.0.from ≡ edge.from = limit.3 ∙ hop.3 in
+          let key : (limit.0.scid == edge.scid && is_point edge.from limit.0.from) ≡ true =
+          rw (scid, from, is_point-self edge.from, eq-eqb edge.scid edge.scid refl) refl in
+          let below = most_limit (capacity_limits rows payment.payer busy ++ others) edge.scid edge.from edge.max limit.0
+          (Among-left (capacity_limits rows payment.payer busy) others limit.0 limit.1) key in
+          let alike : carried_over busy hop.0.scid hop.0.from ≡ carried_over busy edge.scid edge.from =
+          ap (λ n. carried_over busy n hop.0.from) hop.2 ∙ ap (λ (p : Point). carried_over busy edge.scid p) hop.3 in
+          let leaves = limit.4 in
+          inr (inr (bare, (capacity.channel, capacity.there, omega arith)))
 
--- the hops of a walk take no more than their edges have
-walk_room : (known : Option (List ℕ)) (rows : Rows) (payment : PaymentState) (own : List ExtraEdge) (busy : List Hop)
-    (request : Request) (node : Point) (walk : List PointEdge) → 1 ≤ request.amount
-    → IsRest (edges_for known rows payment own busy) request node walk
-    → HaveRoom rows (own ++ payment.hints) busy (hops_of request walk)
-walk_room known rows payment own busy request node [] some joins = tt
-walk_room known rows payment own busy request node (edge ∷ rest) some joins =
-    let more = owed_more request.amount rest in (
-      edge_room known rows payment own busy edge (owed request.amount rest)
-          (Among-Contains (edges_for known rows payment own busy) edge joins.0.there) (omega arith) joins.0.below_max,
-      walk_room known rows payment own busy request edge.to rest some joins.1,
-    )
+  -- an edge that is used isn't the payer's
+  others_alone : (edge : PointEdge) (silent : List Point) → not (list_any (is_point edge.from) (payment.payer ∷ silent)) ≡ true
+      → is_point edge.from payment.payer ≡ false
+  others_alone edge silent is = by (is_point edge.from payment.payer) refl
+    where
+      by : (b : Bool) → is_point edge.from payment.payer ≡ b → is_point edge.from payment.payer ≡ false
+      by true same = absurd (true≢false (sym (rw same at is)))
+      by false same = same
 
-some_room : (limits : RouteLimits) (known : Option (List ℕ)) (rows : Rows) (payment : PaymentState) (own : List ExtraEdge) (busy : List Hop)
-    (request : Request) (hops : List Hop) → 1 ≤ request.amount
-    → IsSomeRoute limits (edges_for known rows payment own busy) request hops
-    → HaveRoom rows (own ++ payment.hints) busy hops
-some_room limits known rows payment own busy request hops some route =
-    subst (λ h. HaveRoom rows (own ++ payment.hints) busy h) (sym route.3)
-    (walk_room known rows payment own busy request request.payer route.0 some route.1.joins)
+  -- over an edge of those over which a part is searched for
+  edge_room : (known : Option (List ℕ)) (edge : PointEdge) (amount : ℕ)
+      → Among (overlaid_edges known rows (overlay_of payment rows own since busy)) edge → 1 ≤ amount → amount ≤ edge.max
+      → HasRoom rows own payment.hints since busy edge.scid edge.from amount
+  edge_room known edge amount there some fits =
+      let overlay = overlay_of payment rows own since busy in
+      let passed = Among-passed (λ edge. takes_payments known rows.nodes edge.to) (laid_over overlay (carrying rows)) edge there in
+      let laid = Among-mapped (limited overlay.limits) (firsts overlay.extra ++ filter (is_used overlay) (carrying rows)) edge passed.0 in
+      let max : most_of overlay.limits laid.0.scid laid.0.from laid.0.max ≡ edge.max = ap (λ (e : PointEdge). e.max) laid.2 in
+      let scid : laid.0.scid ≡ edge.scid = ap (λ (e : PointEdge). e.scid) laid.2 in
+      let from : laid.0.from ≡ edge.from = ap (λ (e : PointEdge). e.from) laid.2 in
+      let room = by laid.0 (omega arith) (Among-either (firsts overlay.extra) (filter (is_used overlay) (carrying rows)) laid.0 laid.1) in
+      subst (λ (p : Point). HasRoom rows own payment.hints since busy edge.scid p amount) from
+      (subst (λ n. HasRoom rows own payment.hints since busy n laid.0.from amount) scid room)
+    where
+      by : (base : PointEdge) → amount ≤ most_of (overlay_of payment rows own since busy).limits base.scid base.from base.max
+          → Among (firsts (overlay_of payment rows own since busy).extra) base
+          ⊎ Among (filter (is_used (overlay_of payment rows own since busy)) (carrying rows)) base
+          → HasRoom rows own payment.hints since busy base.scid base.from amount
+      by base fits (inl extra) =
+          extra_room (overlay_of payment rows own since busy).limits base amount
+          (firsts_among (overlay_of payment rows own since busy).extra base extra) some fits
+      by base fits (inr public) =
+          let passed = Among-passed (is_used (overlay_of payment rows own since busy)) (carrying rows) base public in
+          let used = and_parts _ _ passed.1 in
+          public_room (limits_left payment.payer payment.hints payment.parts) base amount passed.0
+          (others_alone base (all_silenced payment.payer payment.hints payment.parts) used.0) (unnamed base used.1) some fits
 
-within_room : (limits : Option RouteLimits) (penalty : PointEdge → ℕ → ℕ) (known : Option (List ℕ)) (rows : Rows) (payment : PaymentState)
-    (own : List ExtraEdge) (busy : List Hop) (request : Request) (found : Found) → 1 ≤ request.amount
-    → IsAnswerWithin limits penalty (edges_for known rows payment own busy) request (Ok found)
-    → HaveRoom rows (own ++ payment.hints) busy found.route
-within_room None penalty known rows payment own busy request found some none = cc
-within_room (Some limits) penalty known rows payment own busy request found some answer =
-    some_room limits known rows payment own busy request found.route some answer.1
+  -- ---- of a route
 
--- what a part is sent over has room
-pub found_room : (penalty : PointEdge → ℕ → ℕ) (known : Option (List ℕ)) (rows : Rows) (payment : PaymentState) (own : List ExtraEdge)
-    (busy : List Hop) (height amount : ℕ) (found : Found) → 1 ≤ amount
-    → IsFoundFor penalty payment (edges_for known rows payment own busy) height amount found
-    → HaveRoom rows (own ++ payment.hints) busy found.route
-found_room penalty known rows payment own busy height amount found some (inl route) =
-    within_room (route_limits payment) penalty known rows payment own busy (request_of payment amount height) found some route.answer.within
-found_room penalty known rows payment own busy height amount found some (inr route) =
-    within_room (route_limits payment) plain known rows payment own busy (request_of payment amount height) found some route.route.answer.within
+  -- the hops of a walk take no more than their edges have
+  walk_room : (known : Option (List ℕ)) (request : Request) (node : Point) (walk : List PointEdge) → 1 ≤ request.amount
+      → IsRest (overlaid_edges known rows (overlay_of payment rows own since busy)) request node walk
+      → HaveRoom rows own payment.hints since busy (hops_of request walk)
+  walk_room known request node [] some joins = tt
+  walk_room known request node (edge ∷ rest) some joins =
+      let more = owed_more request.amount rest in (
+        edge_room known edge (owed request.amount rest)
+            (Among-Contains (overlaid_edges known rows (overlay_of payment rows own since busy)) edge joins.0.there)
+            (omega arith) joins.0.below_max,
+        walk_room known request edge.to rest some joins.1,
+      )
+
+  some_room : (limits : RouteLimits) (known : Option (List ℕ)) (request : Request) (hops : List Hop) → 1 ≤ request.amount
+      → IsSomeRoute limits (overlaid_edges known rows (overlay_of payment rows own since busy)) request hops
+      → HaveRoom rows own payment.hints since busy hops
+  some_room limits known request hops some route =
+      subst (λ h. HaveRoom rows own payment.hints since busy h) (sym route.3)
+      (walk_room known request request.payer route.0 some route.1.joins)
+
+  within_room : (limits : Option RouteLimits) (known : Option (List ℕ)) (penalty : PointEdge → ℕ → ℕ) (odds : List Hop → ℕ) (height : ℕ)
+      (request : Request) (found : Found) → 1 ≤ request.amount
+      → IsAnswerWithin limits (record {
+        penalty = penalty;
+        odds = odds;
+        edges = overlaid_edges known rows (overlay_of payment rows own since busy);
+        height = height;
+      }) request (Ok found)
+      → HaveRoom rows own payment.hints since busy found.route
+  within_room None known penalty odds height request found some none = cc
+  within_room (Some limits) known penalty odds height request found some answer =
+      some_room limits known request found.route some answer.1
+
+  -- what a part is sent over has room
+  pub found_room : (known : Option (List ℕ)) (penalty : PointEdge → ℕ → ℕ) (odds : List Hop → ℕ) (height amount : ℕ) (found : Found)
+      → 1 ≤ amount
+      → IsFoundFor (record {
+        penalty = penalty;
+        odds = odds;
+        edges = overlaid_edges known rows (overlay_of payment rows own since busy);
+        height = height;
+      }) payment amount found
+      → HaveRoom rows own payment.hints since busy found.route
+  found_room known penalty odds height amount found some (inl route) =
+      within_room (route_limits payment) known penalty odds height (request_of payment amount height) found some route.answer.within
+  found_room known penalty odds height amount found some (inr route) =
+      within_room (route_limits payment) known (penalty_at no_preferences []) odds height (request_of payment amount height) found some
+      route.route.answer.within

@@ -13,7 +13,7 @@ use Rattle.lgm_route.specs.Routes.{owed, due, hops_of}
 use Rattle.lgm_route.specs.Preferred.{IsSomeRoute, delay}
 use Rattle.lgm_payer.specs.declared.part.Part.{Part}
 use Rattle.lgm_payer.specs.Payments.{PaymentState, fees}
-use Rattle.lgm_payer.specs.Searches.{IsAnswerWithin, IsAnswerFor, IsFoundFor, request_of, route_limits, most_blocks, or_fewer, final_blocks, plain}
+use Rattle.lgm_payer.specs.Searches.{Prospect, IsAnswerWithin, IsAnswerFor, IsFoundFor, request_of, route_limits, most_blocks, or_fewer, final_blocks, plain}
 
 -- what has to reach the first node is no less than what arrives
 pub owed_more : (amount : ℕ) (rest : List PointEdge) → amount ≤ owed amount rest
@@ -52,53 +52,53 @@ some_falls most hops_most edges request hops route =
 
 -- ---- of parts
 
-within_sends : (limits : Option RouteLimits) (penalty : PointEdge → ℕ → ℕ) (edges : List PointEdge) (request : Request) (found : Found)
-    → IsAnswerWithin limits penalty edges request (Ok found) → request.amount ≤ sent found.route
-within_sends None penalty edges request found none = cc
-within_sends (Some limits) penalty edges request found answer = some_sends limits edges request found.route answer.1
+within_sends : (limits : Option RouteLimits) (prospect : Prospect) (request : Request) (found : Found)
+    → IsAnswerWithin limits prospect request (Ok found) → request.amount ≤ sent found.route
+within_sends None prospect request found none = cc
+within_sends (Some limits) prospect request found answer = some_sends limits prospect.edges request found.route answer.1
 
-pub answer_sends : (penalty : PointEdge → ℕ → ℕ) (payment : PaymentState) (edges : List PointEdge) (height amount : ℕ) (found : Found)
-    → IsAnswerFor penalty payment edges height amount (Ok found) → amount ≤ sent found.route
-answer_sends penalty payment edges height amount found answer =
-    within_sends (route_limits payment) penalty edges (request_of payment amount height) found answer.within
+pub answer_sends : (prospect : Prospect) (payment : PaymentState) (amount : ℕ) (found : Found)
+    → IsAnswerFor prospect payment amount (Ok found) → amount ≤ sent found.route
+answer_sends prospect payment amount found answer =
+    within_sends (route_limits payment) prospect (request_of payment amount prospect.height) found answer.within
 
 -- parts' ends leave no more blocks than there were
 fewer_within : (most : ℕ) (parts : List Part) → fold or_fewer most parts ≤ most
 fewer_within most [] = omega arith
 fewer_within most (part ∷ parts) = let rest = fewer_within (or_fewer most part) parts in omega arith
 
-within_falls : (far : Bool) (most last height : ℕ) (penalty : PointEdge → ℕ → ℕ) (edges : List PointEdge) (request : Request)
+within_falls : (far : Bool) (most last height : ℕ) (prospect : Prospect) (request : Request)
     (found : Found) → nat_lt most last ≡ far → request.expiry ≤ height + last
-    → IsAnswerWithin (if far then None else Some (record { most_delay = Some (most - last); most_hops = 20 })) penalty edges request (Ok found)
+    → IsAnswerWithin (if far then None else Some (record { most_delay = Some (most - last); most_hops = 20 })) prospect request (Ok found)
     → expiry found.route ≤ height + most
-within_falls true most last height penalty edges request found is soon none = cc
-within_falls false most last height penalty edges request found is soon answer =
-    let falls = some_falls (most - last) 20 edges request found.route answer.1 in
+within_falls true most last height prospect request found is soon none = cc
+within_falls false most last height prospect request found is soon answer =
+    let falls = some_falls (most - last) 20 prospect.edges request found.route answer.1 in
     let enough : last ≤ most = grind (arith, nat_tests) in
     omega arith
 
-pub answer_falls : (penalty : PointEdge → ℕ → ℕ) (payment : PaymentState) (edges : List PointEdge) (height amount : ℕ) (found : Found)
-    → IsAnswerFor penalty payment edges height amount (Ok found) → expiry found.route ≤ height + payment.bounds.most_blocks
-answer_falls penalty payment edges height amount found answer =
+pub answer_falls : (prospect : Prospect) (payment : PaymentState) (amount : ℕ) (found : Found)
+    → IsAnswerFor prospect payment amount (Ok found) → expiry found.route ≤ prospect.height + payment.bounds.most_blocks
+answer_falls prospect payment amount found answer =
     let most = most_blocks payment in
     let last = final_blocks payment.invoice in
     let few = fewer_within payment.bounds.most_blocks payment.parts in
-    let falls = within_falls (nat_lt most last) most last height penalty edges (request_of payment amount height) found refl
+    let falls = within_falls (nat_lt most last) most last prospect.height prospect (request_of payment amount prospect.height) found refl
     (omega arith) answer.within in
     omega arith
 
 -- a route that a part is sent over sends no less than its amount, at a fee within the bound, and expires in time
-pub found_sends : (penalty : PointEdge → ℕ → ℕ) (payment : PaymentState) (edges : List PointEdge) (height amount : ℕ) (found : Found)
-    → IsFoundFor penalty payment edges height amount found → amount ≤ sent found.route
-found_sends penalty payment edges height amount found (inl route) = answer_sends penalty payment edges height amount found route.answer
-found_sends penalty payment edges height amount found (inr route) = answer_sends plain payment edges height amount found route.route.answer
+pub found_sends : (prospect : Prospect) (payment : PaymentState) (amount : ℕ) (found : Found)
+    → IsFoundFor prospect payment amount found → amount ≤ sent found.route
+found_sends prospect payment amount found (inl route) = answer_sends prospect payment amount found route.answer
+found_sends prospect payment amount found (inr route) = answer_sends (plain prospect) payment amount found route.route.answer
 
-pub found_fee : (penalty : PointEdge → ℕ → ℕ) (payment : PaymentState) (edges : List PointEdge) (height amount : ℕ) (found : Found)
-    → IsFoundFor penalty payment edges height amount found → sent found.route - amount + fees payment ≤ payment.bounds.most_fee
-found_fee penalty payment edges height amount found (inl route) = route.fee
-found_fee penalty payment edges height amount found (inr route) = route.route.fee
+pub found_fee : (prospect : Prospect) (payment : PaymentState) (amount : ℕ) (found : Found)
+    → IsFoundFor prospect payment amount found → sent found.route - amount + fees payment ≤ payment.bounds.most_fee
+found_fee prospect payment amount found (inl route) = route.fee
+found_fee prospect payment amount found (inr route) = route.route.fee
 
-pub found_falls : (penalty : PointEdge → ℕ → ℕ) (payment : PaymentState) (edges : List PointEdge) (height amount : ℕ) (found : Found)
-    → IsFoundFor penalty payment edges height amount found → expiry found.route ≤ height + payment.bounds.most_blocks
-found_falls penalty payment edges height amount found (inl route) = answer_falls penalty payment edges height amount found route.answer
-found_falls penalty payment edges height amount found (inr route) = answer_falls plain payment edges height amount found route.route.answer
+pub found_falls : (prospect : Prospect) (payment : PaymentState) (amount : ℕ) (found : Found)
+    → IsFoundFor prospect payment amount found → expiry found.route ≤ prospect.height + payment.bounds.most_blocks
+found_falls prospect payment amount found (inl route) = answer_falls prospect payment amount found route.answer
+found_falls prospect payment amount found (inr route) = answer_falls (plain prospect) payment amount found route.route.answer

@@ -1,6 +1,6 @@
 -- What a payment knows beside the map: its payer's channels, the invoice's hints, and what failed parts and parts that are
 -- under way leave.
-use Rattle.std.specs.Prelude.{◌≡◌, ◌⊎◌, ℕ, ◌≤◌, Contains, ◌+◌, ◌-◌, ◌*◌, ◌^◌, Bool, not, ◌&&◌, ◌==◌, min, List, [], ◌∷◌, ◌++◌, map, sum_by}
+use Rattle.std.specs.Prelude.{◌≡◌, ◌⊎◌, ℕ, ◌≤◌, Contains, ◌+◌, ◌-◌, ◌*◌, ◌^◌, Bool, not, ◌&&◌, ◌==◌, min, List, [], ◌∷◌, ◌++◌, map}
 use Rattle.std.specs.Prelude.{Option, Some, None, slice_get, if◌then◌else◌}
 use Rattle.std.specs.List.{list_any, flat_map, AllByRecursion}
 use Rattle.std.specs.Option.{option_map, option_and_then, option_or}
@@ -11,32 +11,14 @@ use Rattle.lgm_graph.specs.declared.overlay.ExtraEdge.{ExtraEdge}
 use Rattle.lgm_graph.specs.declared.overlay.Limit.{Limit}
 use Rattle.lgm_graph.specs.declared.route.Hop.{Hop}
 use Rattle.lgm_graph.specs.Overlay.{OverlayParts, extra_edge}
-use Rattle.lgm_payer.specs.declared.ending.Ending.{Ending}
-use Rattle.lgm_payer.specs.declared.ending.Ending.TheVariants.{Arrived, Lost, Failed}
-use Rattle.lgm_payer.specs.declared.ending.FailureKind.{FailureKind}
-use Rattle.lgm_payer.specs.declared.ending.FailureKind.TheVariants.{Balance, Node, Terms, Expiry, Channel}
+use Rattle.lgm_odds.specs.Carried.{carried_over}
+use Rattle.lgm_payer.specs.declared.failure.Ending.{Ending}
+use Rattle.lgm_payer.specs.declared.failure.Ending.TheVariants.{Unreadable, Failed}
+use Rattle.lgm_payer.specs.declared.failure.FailureKind.{FailureKind}
+use Rattle.lgm_payer.specs.declared.failure.FailureKind.TheVariants.{Balance, Node, Terms, Expiry, Channel}
 use Rattle.lgm_payer.specs.declared.part.Part.{Part}
-use Rattle.lgm_payer.specs.Endings.{kind_of}
-use Rattle.lgm_payer.specs.Parts.{is_under_way}
+use Rattle.lgm_payer.specs.Failures.{kind_of}
 use Rattle.lgm_payer.specs.Payments.{PaymentState}
-
--- ---- what is under way
-
--- the hops of a part that is under way
-abbrev pub hops_under_way : Part → List Hop
-hops_under_way part = if is_under_way part then part.route else []
-
--- the hops of all parts that are under way
-abbrev pub all_under_way : List Part → List Hop
-all_under_way parts = flat_map hops_under_way parts
-
--- the amount of a hop, if it is over this edge
-abbrev pub over : ℕ → Point → Hop → ℕ
-over scid from hop = if hop.scid == scid && is_point hop.from from then hop.amount else 0
-
--- what hops carry over an edge
-abbrev pub carried_over : List Hop → ℕ → Point → ℕ
-carried_over busy scid from = sum_by (over scid from) busy
 
 -- ---- edges
 
@@ -44,13 +26,19 @@ carried_over busy scid from = sum_by (over scid from) busy
 abbrev pub spared : List Hop → ExtraEdge → ExtraEdge
 spared busy edge = record edge { max = edge.max - carried_over busy edge.scid edge.from }
 
+-- edges beside the map: the payer's channels, less what was sent over them since they were told, and the hints, less what is
+-- under way over them
+abbrev pub extra_of : PaymentState → List ExtraEdge → List Hop → List Hop → List ExtraEdge
+extra_of payment own since busy = map (spared since) own ++ map (spared busy) payment.hints
+
 abbrev pub limit_of : Hop → ℕ → Limit
 limit_of hop most = record { scid = hop.scid; from = hop.from; most = most }
 
--- what is left of the capacity of a hop's channel beside these hops, if the map has it: at most 2^64 - 1
-abbrev pub capacity_limit : Rows → List Hop → Hop → Option Limit
-capacity_limit rows busy hop =
-    option_map
+-- what is left of the capacity of a hop's channel beside these hops, if the map has it and it isn't the payer's: at most
+-- 2^64 - 1
+abbrev pub capacity_limit : Rows → Point → List Hop → Hop → Option Limit
+capacity_limit rows payer busy hop =
+    if is_point hop.from payer then None else option_map
     (λ (channel : ChannelRow). limit_of hop (min (2 ^ 64 - 1) (channel.sat * 1000) - carried_over busy hop.scid hop.from))
     (channel_of rows.channels hop.scid)
 
@@ -87,8 +75,7 @@ first_other route = option_or (slice_get route 1) (slice_get route 0)
 -- the limit that a part's end leaves: where no message could be read, nobody knows which hop failed
 abbrev pub limit_by_ending : Point → List ExtraEdge → List Hop → Option Ending → Option Limit
 limit_by_ending payer hints route None = None
-limit_by_ending payer hints route (Some Arrived) = None
-limit_by_ending payer hints route (Some Lost) = option_map (λ hop. limit_of hop 0) (first_other route)
+limit_by_ending payer hints route (Some Unreadable) = option_map (λ hop. limit_of hop 0) (first_other route)
 limit_by_ending payer hints route (Some (Failed failure)) =
     option_and_then (λ hop. limit_by_kind (kind_of failure.code) (is_public payer hints hop) failure.is_renewed hop)
     (slice_get route failure.place)
@@ -99,8 +86,7 @@ limit_left payer hints part = limit_by_ending payer hints part.route part.ending
 -- the node that it silences
 abbrev pub silent_by_ending : Point → List ExtraEdge → List Hop → Option Ending → Option Point
 silent_by_ending payer hints route None = None
-silent_by_ending payer hints route (Some Arrived) = None
-silent_by_ending payer hints route (Some Lost) = None
+silent_by_ending payer hints route (Some Unreadable) = None
 silent_by_ending payer hints route (Some (Failed failure)) =
     option_and_then (λ hop. silent_by_kind (kind_of failure.code) (is_public payer hints hop) hop)
     (slice_get route failure.place)
@@ -115,11 +101,11 @@ abbrev pub listed : {A : Type 0} → Option A → List A
 listed None = []
 listed (Some item) = item ∷ []
 
-abbrev pub capacity_limits_over : Rows → List Hop → List Hop → List Limit
-capacity_limits_over rows busy hops = flat_map (λ hop. listed (capacity_limit rows busy hop)) hops
+abbrev pub capacity_limits_over : Rows → Point → List Hop → List Hop → List Limit
+capacity_limits_over rows payer busy hops = flat_map (λ hop. listed (capacity_limit rows payer busy hop)) hops
 
-abbrev pub capacity_limits : Rows → List Hop → List Limit
-capacity_limits rows busy = capacity_limits_over rows busy busy
+abbrev pub capacity_limits : Rows → Point → List Hop → List Limit
+capacity_limits rows payer busy = capacity_limits_over rows payer busy busy
 
 abbrev pub limits_left : Point → List ExtraEdge → List Part → List Limit
 limits_left payer hints parts = flat_map (λ part. listed (limit_left payer hints part)) parts
@@ -129,13 +115,20 @@ all_silenced payer hints parts = flat_map (λ part. listed (silenced payer hints
 
 -- ---- the overlay
 
--- the payer's channels and then the hints, each with what is left of it; the limits that capacities leave, and those that
--- failed parts do; and as silent nodes the payer, whose channels are the ones told, and those that failed parts silence
-abbrev pub overlay_of : PaymentState → Rows → List ExtraEdge → List Hop → OverlayParts
-overlay_of payment rows own busy = record {
-  extra = map (λ edge. extra_edge (spared busy edge)) (own ++ payment.hints);
-  limits = capacity_limits rows busy ++ limits_left payment.payer payment.hints payment.parts;
-  silent = payment.payer ∷ all_silenced payment.payer payment.hints payment.parts;
+-- the limits that capacities leave, and those that failed parts do
+abbrev pub limits_of : PaymentState → Rows → List Hop → List Limit
+limits_of payment rows busy =
+    capacity_limits rows payment.payer busy ++ limits_left payment.payer payment.hints payment.parts
+
+-- and as silent nodes the payer, whose channels are the ones told, and those that failed parts silence
+abbrev pub silent_of : PaymentState → List Point
+silent_of payment = payment.payer ∷ all_silenced payment.payer payment.hints payment.parts
+
+abbrev pub overlay_of : PaymentState → Rows → List ExtraEdge → List Hop → List Hop → OverlayParts
+overlay_of payment rows own since busy = record {
+  extra = map extra_edge (extra_of payment own since busy);
+  limits = limits_of payment rows busy;
+  silent = silent_of payment;
 }
 
 -- ---- nothing is promised twice
@@ -144,15 +137,22 @@ overlay_of payment rows own busy = record {
 abbrev pub IsUnnamed : List ExtraEdge → ℕ → Point → Type 0
 IsUnnamed extra scid from = (edge : ExtraEdge) → Contains extra edge → edge.scid ≡ scid → edge.from ≡ from → ⊥
 
--- there is room over an edge for an amount beside these hops: it is one of the payer's channels or of the hints, with a
--- maximum for both; or none of these, and its channel has the capacity for both
-abbrev pub HasRoom : Rows → List ExtraEdge → List Hop → ℕ → Point → ℕ → Type 0
-HasRoom rows extra busy scid from amount =
-    ((edge : ExtraEdge) × Contains extra edge × (edge.scid ≡ scid) × (edge.from ≡ from)
-    × (carried_over busy scid from + amount ≤ edge.max))
-    ⊎ (IsUnnamed extra scid from × ((channel : ChannelRow) × (channel_of rows.channels scid ≡ Some channel)
-    × (carried_over busy scid from + amount ≤ channel.sat * 1000)))
+-- one of these edges has this name, with a maximum for an amount beside these hops
+abbrev pub HasRoomIn : List ExtraEdge → List Hop → ℕ → Point → ℕ → Type 0
+HasRoomIn extra busy scid from amount =
+    (edge : ExtraEdge) × Contains extra edge × (edge.scid ≡ scid) × (edge.from ≡ from)
+    × (carried_over busy scid from + amount ≤ edge.max)
+
+-- there is room over an edge for an amount: it is one of the payer's channels, which can send both it and what was sent since
+-- they were told; or one of the hints, with a maximum for it beside what is under way; or none of these, and its channel has
+-- the capacity for it beside what is under way
+abbrev pub HasRoom : Rows → List ExtraEdge → List ExtraEdge → List Hop → List Hop → ℕ → Point → ℕ → Type 0
+HasRoom rows own hints since busy scid from amount =
+    HasRoomIn own since scid from amount ⊎ (HasRoomIn hints busy scid from amount
+    ⊎ (IsUnnamed (own ++ hints) scid from × ((channel : ChannelRow) × (channel_of rows.channels scid ≡ Some channel)
+    × (carried_over busy scid from + amount ≤ channel.sat * 1000))))
 
 -- there is for each hop of a route
-abbrev pub HaveRoom : Rows → List ExtraEdge → List Hop → List Hop → Type 0
-HaveRoom rows extra busy route = AllByRecursion (λ hop. HasRoom rows extra busy hop.scid hop.from hop.amount) route
+abbrev pub HaveRoom : Rows → List ExtraEdge → List ExtraEdge → List Hop → List Hop → List Hop → Type 0
+HaveRoom rows own hints since busy route =
+    AllByRecursion (λ hop. HasRoom rows own hints since busy hop.scid hop.from hop.amount) route

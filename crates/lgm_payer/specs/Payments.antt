@@ -1,26 +1,58 @@
--- A payment: what is left of it, the amount of its next part, and what the events make of it.
-use Rattle.std.specs.Prelude.{◌≡◌, ℕ, ◌+◌, ◌-◌, ◌<◌, ◌≤◌, min, max, List, [], ◌∷◌, ◌++◌, All, length, sum_by, count_by}
-use Rattle.std.specs.Prelude.{Bool, false, Some, None, slice_get, slice_set, if◌then◌else◌}
-use Rattle.std.specs.Option.{option_map_or}
-use Rattle.std.specs.Int.{div_ceil}
+-- A payment: what is left of it, and what the events make of it.
+use Rattle.std.specs.Prelude.{◌≡◌, ℕ, ◌+◌, ◌-◌, ◌<◌, ◌≤◌, max, List, [], ◌∷◌, ◌++◌, All, length, sum_by, count_by, filter}
+use Rattle.std.specs.Prelude.{Bool, true, false, not, ◌==◌, Option, Some, slice_get, slice_set, if◌then◌else◌}
+use Rattle.std.specs.List.{position}
 use Rattle.lgm_wire.specs.declared.point.Point.{Point}
+use Rattle.lgm_wire.specs.Tlv.{TlvRecord}
+use Rattle.lgm_store.specs.Rows.{is_point}
 use Rattle.lgm_graph.specs.declared.overlay.ExtraEdge.{ExtraEdge}
-use Rattle.lgm_graph.specs.declared.route.Hop.{Hop}
-use Rattle.lgm_graph.specs.Route.{sent, expiry}
+use Rattle.lgm_graph.specs.Route.{sent}
+use Rattle.lgm_payload.specs.Arrival.{ArrivalParts}
 use Rattle.lgm_payer.specs.declared.invoice.Invoice.{Invoice}
 use Rattle.lgm_payer.specs.declared.bounds.Bounds.{Bounds}
-use Rattle.lgm_payer.specs.declared.ending.Ending.{Ending}
+use Rattle.lgm_payer.specs.declared.failure.Ending.{Ending}
 use Rattle.lgm_payer.specs.declared.part.Part.{Part}
-use Rattle.lgm_payer.specs.Parts.{is_under_way, is_held, held_amount, held_fee, arrived_amount}
+use Rattle.lgm_payer.specs.declared.stage.Stage.{Stage}
+use Rattle.lgm_payer.specs.declared.stage.Stage.TheVariants.{Open, Abandoned, Paid}
+use Rattle.lgm_payer.specs.Parts.{is_held, held_amount, held_fee}
 
--- who pays what, within which bounds; no part is to have more than most_part; and all parts that were ever sent
+-- its number, who pays what, what the payee gets beside the route, within which bounds; what became of it; and all parts
+-- that were ever sent
 pub record PaymentState : Type 0 where
+  pub number : ℕ
   pub payer : Point
   pub invoice : Invoice
   pub hints : List ExtraEdge
+  pub arrival : ArrivalParts
   pub bounds : Bounds
-  pub most_part : ℕ
+  pub stage : Stage
   pub parts : List Part
+
+-- a hint, unless it leaves the payer: the payer alone says what its channels are
+abbrev pub is_others : Point → ExtraEdge → Bool
+is_others payer hint = not (is_point hint.from payer)
+
+-- a payment of which nothing was sent yet
+abbrev pub payment_of : ℕ → Point → Invoice → List ExtraEdge → Option (List ℕ) → List TlvRecord → Bounds → PaymentState
+payment_of number payer invoice hints metadata records bounds = record {
+  number = number;
+  payer = payer;
+  invoice = invoice;
+  hints = filter (is_others payer) hints;
+  arrival = record { secret = invoice.secret; total = invoice.amount; metadata = metadata; records = records };
+  bounds = bounds;
+  stage = Open;
+  parts = [];
+}
+
+-- the payee took the whole
+abbrev pub is_paid_at : Stage → Bool
+is_paid_at Open = false
+is_paid_at Abandoned = false
+is_paid_at Paid = true
+
+abbrev pub is_paid : PaymentState → Bool
+is_paid payment = is_paid_at payment.stage
 
 -- ---- what is left
 
@@ -32,10 +64,6 @@ left payment = payment.invoice.amount - sum_by held_amount payment.parts
 abbrev pub fees : PaymentState → ℕ
 fees payment = sum_by held_fee payment.parts
 
--- all of the amount has arrived
-abbrev pub IsPaid : PaymentState → Type 0
-IsPaid payment = sum_by arrived_amount payment.parts ≡ payment.invoice.amount
-
 -- how many parts may be under way or have arrived
 abbrev pub most_at_once : Invoice → Bounds → ℕ
 most_at_once invoice bounds = if invoice.basic_mpp then max 1 bounds.most_parts else 1
@@ -43,16 +71,6 @@ most_at_once invoice bounds = if invoice.basic_mpp then max 1 bounds.most_parts 
 -- how many more may be
 abbrev pub parts_left : PaymentState → ℕ
 parts_left payment = most_at_once payment.invoice payment.bounds - count_by is_held payment.parts
-
--- ---- the amount of the next part
-
--- how many parts are to carry what is left, where none is to have more than this
-abbrev pub pieces : ℕ → PaymentState → ℕ
-pieces most payment = min (div_ceil (left payment) most) (parts_left payment)
-
--- what is left, in equal pieces
-abbrev pub next_amount : ℕ → PaymentState → ℕ
-next_amount most payment = div_ceil (left payment) (pieces most payment)
 
 -- an amount of a next part: something of what is left, and all of it where only one part may carry it
 pub record IsShare (payment : PaymentState) (amount : ℕ) : Type 0 where
@@ -62,29 +80,19 @@ pub record IsShare (payment : PaymentState) (amount : ℕ) : Type 0 where
 
 -- ---- the events
 
--- a part over a route, asked for at a height
-abbrev pub part_of : List Hop → ℕ → ℕ → Part
-part_of route amount height = record {
-  route = route;
-  amount = amount;
-  fee = sent route - amount;
-  blocks = expiry route - height;
-  ending = None;
-}
+-- a part was sent
+abbrev pub with_sent : Part → PaymentState → PaymentState
+with_sent part payment = record payment { parts = payment.parts ++ part ∷ [] }
 
--- a part was sent, where none was to have more than this
-abbrev pub with_sent : ℕ → Part → PaymentState → PaymentState
-with_sent most part payment = record payment { most_part = most; parts = payment.parts ++ part ∷ [] }
+-- the place of the part with a number
+abbrev pub part_place : List Part → ℕ → Option ℕ
+part_place parts number = position (λ part. part.number == number) parts
 
--- the part at a place is under way
-abbrev pub is_under_way_at : ℕ → PaymentState → Bool
-is_under_way_at place payment = option_map_or is_under_way (slice_get payment.parts place) false
-
--- the part at a place ended
+-- the part at a place failed
 pub record IsEnded (place : ℕ) (ending : Ending) (old new : PaymentState) : Type 0 where
   pub part : Part
   pub there : slice_get old.parts place ≡ Some part
-  pub under_way : part.ending ≡ None
+  pub held : is_held part ≡ true
   pub ends : new ≡ record old { parts = slice_set old.parts place (record part { ending = Some ending }) }
 
 -- ---- what always holds

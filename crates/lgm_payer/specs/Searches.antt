@@ -1,41 +1,44 @@
--- The search for a payment's next part: what is asked, and what its answer is.
-use Rattle.std.specs.Prelude.{◌≡◌, ◌⊎◌, ℕ, ◌+◌, ◌-◌, ◌^◌, ◌<◌, ◌≤◌, Bool, true, false, not, ◌&&◌, ◌==◌, ◌||◌, nat_lt, nat_le, min, List, [], ◌++◌, length, fold}
+-- The search for a payment's next part: what is asked, what its answer is, and which part is chosen.
+use Rattle.std.specs.Prelude.{◌≡◌, ◌⊎◌, ℕ, ◌+◌, ◌-◌, ◌*◌, ◌/◌, ◌^◌, ◌<◌, ◌≤◌, Bool, true, false, not, ◌&&◌, ◌==◌, nat_lt, nat_le, min, max, List, [], ◌∷◌, length, fold}
 use Rattle.std.specs.Prelude.{Option, Some, None, Result, Ok, Err, if◌then◌else◌}
 use Rattle.std.specs.Option.{option_or}
 use Rattle.std.specs.Int.{div_ceil}
+use Rattle.lgm_wire.specs.declared.point.Point.{Point}
 use Rattle.lgm_store.specs.Rows.{Rows}
 use Rattle.lgm_graph.specs.Edges.{PointEdge}
 use Rattle.lgm_graph.specs.Overlay.{overlaid_edges}
 use Rattle.lgm_graph.specs.Route.{sent}
+use Rattle.lgm_graph.specs.declared.estimate.Estimate.{Estimate}
 use Rattle.lgm_graph.specs.declared.overlay.ExtraEdge.{ExtraEdge}
 use Rattle.lgm_graph.specs.declared.route.Hop.{Hop}
 use Rattle.lgm_route.specs.declared.request.Request.{Request}
 use Rattle.lgm_route.specs.declared.limits.RouteLimits.{RouteLimits}
+use Rattle.lgm_route.specs.declared.preferences.Preferences.{Preferences}
 use Rattle.lgm_route.specs.declared.found.Found.{Found}
 use Rattle.lgm_route.specs.declared.found.SearchFault.{SearchFault}
 use Rattle.lgm_route.specs.declared.found.SearchFault.TheVariants.{Fault}
-use Rattle.lgm_route.specs.declared.fault.RouteFault.TheVariants.{NoRoute, NoMemory}
+use Rattle.lgm_route.specs.declared.fault.RouteFault.TheVariants.{NoRoute}
+use Rattle.lgm_route.specs.Odds.{penalty_by}
 use Rattle.lgm_route.specs.Preferred.{IsRouteBy, penalty_at, preferred_answer, no_preferences}
-use Rattle.lgm_payer.specs.declared.ending.Ending.{Ending}
-use Rattle.lgm_payer.specs.declared.ending.Ending.TheVariants.{Arrived, Lost, Failed}
-use Rattle.lgm_payer.specs.declared.ending.FailureKind.{FailureKind}
-use Rattle.lgm_payer.specs.declared.ending.FailureKind.TheVariants.{Balance, Node, Terms, Expiry, Channel}
+use Rattle.lgm_odds.specs.RouteOdds.{route_odds}
+use Rattle.lgm_payer.specs.declared.failure.Ending.{Ending}
+use Rattle.lgm_payer.specs.declared.failure.Ending.TheVariants.{Unreadable, Failed}
 use Rattle.lgm_payer.specs.declared.invoice.Invoice.{Invoice}
+use Rattle.lgm_payer.specs.declared.offer.Offer.{Offer}
 use Rattle.lgm_payer.specs.declared.part.Part.{Part}
-use Rattle.lgm_payer.specs.declared.unpaid.Unpaid.{Unpaid}
-use Rattle.lgm_payer.specs.declared.unpaid.Unpaid.TheVariants.{Search, TooDear, TriesUsedUp, PayeeRefused}
-use Rattle.lgm_payer.specs.Endings.{kind_of}
+use Rattle.lgm_payer.specs.declared.unfound.Unfound.{Unfound}
+use Rattle.lgm_payer.specs.declared.unfound.Unfound.TheVariants.{Search, TooDear}
+use Rattle.lgm_payer.specs.Failures.{kind_of, is_far}
 use Rattle.lgm_payer.specs.Reasons.{is_mendable}
-use Rattle.lgm_payer.specs.Payments.{PaymentState, IsShare, fees, next_amount, pieces, parts_left, part_of, with_sent}
-use Rattle.lgm_payer.specs.Overlays.{overlay_of, HaveRoom}
+use Rattle.lgm_payer.specs.Payments.{PaymentState, IsShare, fees, left, parts_left}
+use Rattle.lgm_payer.specs.Overlays.{overlay_of, extra_of, limits_of}
 
 -- ---- what ends a payment
 
 -- the failure code that the payee returned, but mpp_timeout, which another try may mend
 abbrev pub refusal_by_ending : List Hop → Option Ending → Option ℕ
 refusal_by_ending route None = None
-refusal_by_ending route (Some Arrived) = None
-refusal_by_ending route (Some Lost) = None
+refusal_by_ending route (Some Unreadable) = None
 refusal_by_ending route (Some (Failed failure)) =
     if nat_le (length route) failure.place && not (failure.code == 23) then Some failure.code else None
 
@@ -51,19 +54,10 @@ refusal_of parts = fold or_refusal None parts
 
 -- ---- what is asked
 
--- the expiry was too far for a node before the payee
-abbrev pub is_far : FailureKind → Bool
-is_far Balance = false
-is_far Node = false
-is_far Terms = false
-is_far Expiry = true
-is_far Channel = false
-
 -- the most blocks that a part's end leaves, of 32 bits
 abbrev pub blocks_by_ending : Part → Option Ending → ℕ
 blocks_by_ending part None = 2 ^ 32 - 1
-blocks_by_ending part (Some Arrived) = 2 ^ 32 - 1
-blocks_by_ending part (Some Lost) = 2 ^ 32 - 1
+blocks_by_ending part (Some Unreadable) = 2 ^ 32 - 1
 blocks_by_ending part (Some (Failed failure)) =
     if nat_lt failure.place (length part.route) && is_far (kind_of failure.code) then part.blocks - 1 else 2 ^ 32 - 1
 
@@ -96,117 +90,136 @@ route_limits payment =
     if nat_lt (most_blocks payment) (final_blocks payment.invoice) then None
     else Some (record { most_delay = Some (most_blocks payment - final_blocks payment.invoice); most_hops = 20 })
 
--- the edges over which it is searched for
-abbrev pub edges_for : Option (List ℕ) → Rows → PaymentState → List ExtraEdge → List Hop → List PointEdge
-edges_for known rows payment own busy = overlaid_edges known rows (overlay_of payment rows own busy)
+-- what a part is searched over: the penalty of an edge for an amount, the odds that a route fails, the edges, and the height
+pub record Prospect : Type 0 where
+  pub penalty : PointEdge → ℕ → ℕ
+  pub odds : List Hop → ℕ
+  pub edges : List PointEdge
+  pub height : ℕ
+
+-- the penalty by what is believed of edges
+abbrev pub penalty_with : Preferences → (ℕ → Point → Estimate) → PointEdge → ℕ → ℕ
+penalty_with preferences believed edge amount =
+    penalty_by preferences.failure_msat preferences.hop_msat (believed edge.scid edge.from) edge.max amount
+
+-- that of a payment, by what its payer prefers and believes
+abbrev pub prospect_of : Preferences → (ℕ → Point → Estimate) → Option (List ℕ) → Rows → PaymentState → List ExtraEdge → List Hop → List Hop → ℕ → Prospect
+prospect_of preferences believed known rows payment own since busy height = record {
+  penalty = penalty_with preferences believed;
+  odds = route_odds rows (extra_of payment own since busy) (limits_of payment rows busy) believed;
+  edges = overlaid_edges known rows (overlay_of payment rows own since busy);
+  height = height;
+}
+
+-- that of a payer that prefers nothing but to send least
+abbrev pub plain : Prospect → Prospect
+plain prospect = record prospect { penalty = penalty_at no_preferences [] }
 
 -- ---- what is answered
 
 -- the answer for a part within limits, by what its payer prefers: the best route, or one that may not be the best, or why
 -- there is none; if there are no limits, no route
-abbrev pub IsAnswerWithin : Option RouteLimits → (PointEdge → ℕ → ℕ) → List PointEdge → Request → Result Found SearchFault → Type 0
-IsAnswerWithin None penalty edges request answer = answer ≡ Err (Fault NoRoute)
-IsAnswerWithin (Some limits) penalty edges request answer =
-    IsRouteBy (λ answer. answer ≡ preferred_answer penalty limits edges request) limits edges request answer
+abbrev pub IsAnswerWithin : Option RouteLimits → Prospect → Request → Result Found SearchFault → Type 0
+IsAnswerWithin None prospect request answer = answer ≡ Err (Fault NoRoute)
+IsAnswerWithin (Some limits) prospect request answer =
+    IsRouteBy (λ answer. answer ≡ preferred_answer prospect.penalty limits prospect.edges request) limits prospect.edges request answer
 
 -- that for a part of a payment
-pub record IsAnswerFor (penalty : PointEdge → ℕ → ℕ) (payment : PaymentState) (edges : List PointEdge) (height amount : ℕ)
-    (answer : Result Found SearchFault) : Type 0 where
-  pub within : IsAnswerWithin (route_limits payment) penalty edges (request_of payment amount height) answer
+pub record IsAnswerFor (prospect : Prospect) (payment : PaymentState) (amount : ℕ) (answer : Result Found SearchFault) : Type 0 where
+  pub within : IsAnswerWithin (route_limits payment) prospect (request_of payment amount prospect.height) answer
 
 -- such a route whose fee is within the bound
-pub record IsRouteFor (penalty : PointEdge → ℕ → ℕ) (payment : PaymentState) (edges : List PointEdge) (height amount : ℕ)
-    (found : Found) : Type 0 where
-  pub answer : IsAnswerFor penalty payment edges height amount (Ok found)
+pub record IsRouteFor (prospect : Prospect) (payment : PaymentState) (amount : ℕ) (found : Found) : Type 0 where
+  pub answer : IsAnswerFor prospect payment amount (Ok found)
   pub fee : sent found.route - amount + fees payment ≤ payment.bounds.most_fee
 
--- what the payer prefers least: nothing but to send least
-abbrev pub plain : PointEdge → ℕ → ℕ
-plain = penalty_at no_preferences []
-
 -- the cheapest route, where the one that its payer prefers has a fee beyond the bound
-pub record IsCheapestFor (penalty : PointEdge → ℕ → ℕ) (payment : PaymentState) (edges : List PointEdge) (height amount : ℕ)
-    (found : Found) : Type 0 where
+pub record IsCheapestFor (prospect : Prospect) (payment : PaymentState) (amount : ℕ) (found : Found) : Type 0 where
   pub dear : Found
-  pub preferred : IsAnswerFor penalty payment edges height amount (Ok dear)
+  pub preferred : IsAnswerFor prospect payment amount (Ok dear)
   pub beyond : payment.bounds.most_fee < sent dear.route - amount + fees payment
-  pub route : IsRouteFor plain payment edges height amount found
+  pub route : IsRouteFor (plain prospect) payment amount found
 
 -- the route of a part: by what its payer prefers, or else the cheapest one
-abbrev pub IsFoundFor : (PointEdge → ℕ → ℕ) → PaymentState → List PointEdge → ℕ → ℕ → Found → Type 0
-IsFoundFor penalty payment edges height amount found =
-    IsRouteFor penalty payment edges height amount found ⊎ IsCheapestFor penalty payment edges height amount found
+abbrev pub IsFoundFor : Prospect → PaymentState → ℕ → Found → Type 0
+IsFoundFor prospect payment amount found =
+    IsRouteFor prospect payment amount found ⊎ IsCheapestFor prospect payment amount found
 
 -- the cheapest route is beyond the bound of the fee
-pub record IsTooDear (payment : PaymentState) (edges : List PointEdge) (height amount fee : ℕ) : Type 0 where
+pub record IsTooDear (prospect : Prospect) (payment : PaymentState) (amount fee : ℕ) : Type 0 where
   pub found : Found
-  pub answer : IsAnswerFor plain payment edges height amount (Ok found)
+  pub answer : IsAnswerFor (plain prospect) payment amount (Ok found)
   pub fee_is : fee ≡ sent found.route - amount
   pub beyond : payment.bounds.most_fee < fee + fees payment
 
--- ---- in how many parts
-
--- half of the next part, if more parts may be under way than are to carry what is left, and it is enough for a part
-abbrev pub halved : ℕ → PaymentState → Option ℕ
-halved most payment =
-    let half = div_ceil (next_amount most payment) 2 in
-    if nat_le (parts_left payment) (pieces most payment) || nat_lt half payment.bounds.least_part || nat_le most half then None
-    else Some half
-
 -- why none is found for an amount
-abbrev pub IsReason : (PointEdge → ℕ → ℕ) → PaymentState → List PointEdge → ℕ → ℕ → Unpaid → Type 0
-IsReason penalty payment edges height amount (Search fault) =
-    IsAnswerFor penalty payment edges height amount (Err fault) ⊎ IsAnswerFor plain payment edges height amount (Err fault)
-IsReason penalty payment edges height amount (TooDear fee) = IsTooDear payment edges height amount fee
-IsReason penalty payment edges height amount TriesUsedUp = ⊥
-IsReason penalty payment edges height amount (PayeeRefused code) = ⊥
+abbrev pub IsReason : Prospect → PaymentState → ℕ → Unfound → Type 0
+IsReason prospect payment amount (Search fault) =
+    IsAnswerFor prospect payment amount (Err fault) ⊎ IsAnswerFor (plain prospect) payment amount (Err fault)
+IsReason prospect payment amount (TooDear fee) = IsTooDear prospect payment amount fee
 
--- an amount that none of the parts is to be more than is reached by dividing: it is the payment's own, or half of the next
--- part where that has no route within the bounds
-pub data IsReached (penalty : PointEdge → ℕ → ℕ) (payment : PaymentState) (edges : List PointEdge) (height : ℕ) : ℕ → Type 0 where
-  own : IsReached penalty payment edges height payment.most_part
-  half : (most less : ℕ) (reason : Unpaid) → IsReached penalty payment edges height most
-      → IsReason penalty payment edges height (next_amount most payment) reason → is_mendable reason ≡ true
-      → halved most payment ≡ Some less → IsReached penalty payment edges height less
+-- ---- which part is chosen
 
--- what a part is sent over: a route for the next amount, where none is to have more than this
-pub record IsOffered (penalty : PointEdge → ℕ → ℕ) (payment : PaymentState) (edges : List PointEdge) (height : ℕ)
-    (found : Found) (amount most : ℕ) : Type 0 where
-  pub some : 1 ≤ most
-  pub within : most ≤ payment.most_part
-  pub reached : IsReached penalty payment edges height most
-  pub amount_is : amount ≡ next_amount most payment
-  pub share : IsShare payment amount
-  pub route : IsFoundFor penalty payment edges height amount found
+-- the amounts that are tried: what is left in so many equal pieces
+abbrev pub piece : PaymentState → ℕ → ℕ
+piece payment pieces = div_ceil (left payment) pieces
 
--- that for the last amount that was tried: a smaller one mends nothing, or isn't allowed
-pub record IsLast (penalty : PointEdge → ℕ → ℕ) (payment : PaymentState) (edges : List PointEdge) (height : ℕ)
-    (reason : Unpaid) : Type 0 where
-  pub most : ℕ
-  pub some : 1 ≤ most
-  pub within : most ≤ payment.most_part
-  pub reached : IsReached penalty payment edges height most
-  pub why : IsReason penalty payment edges height (next_amount most payment) reason
-  pub last : is_mendable reason ≡ true → halved most payment ≡ None
+-- twice as many, if so many parts may be under way, and none is below the least part
+abbrev pub next_pieces : PaymentState → ℕ → Option ℕ
+next_pieces payment pieces =
+    if nat_le (2 * pieces) (parts_left payment) && nat_le (2 * pieces) (left payment / max 1 payment.bounds.least_part)
+    then Some (2 * pieces) else None
 
--- why nothing more is sent
-abbrev pub IsUnpaid : (PointEdge → ℕ → ℕ) → PaymentState → List PointEdge → ℕ → Unpaid → Type 0
-IsUnpaid penalty payment edges height (PayeeRefused code) = refusal_of payment.parts ≡ Some code
-IsUnpaid penalty payment edges height TriesUsedUp = payment.bounds.most_tries ≤ length payment.parts
-IsUnpaid penalty payment edges height (TooDear fee) = IsLast penalty payment edges height (TooDear fee)
-IsUnpaid penalty payment edges height (Search fault) =
-    (fault ≡ Fault NoMemory) ⊎ IsLast penalty payment edges height (Search fault)
+-- the greatest odds of a route that is likely enough: 3 to 1 that it fails, in millionths
+abbrev pub likely_odds : ℕ
+likely_odds = 3000000
 
--- ---- the next part
+abbrev pub is_likely : Offer → Bool
+is_likely offer = nat_le offer.odds likely_odds
 
--- a part was sent over a route that is the answer, and that leaves each edge what is under way over it
-pub record IsSent (penalty : PointEdge → ℕ → ℕ) (known : Option (List ℕ)) (rows : Rows) (own : List ExtraEdge) (busy : List Hop)
-    (height : ℕ) (old new : PaymentState) (place : ℕ) (is_best : Bool) : Type 0 where
-  pub found : Found
-  pub amount : ℕ
-  pub most : ℕ
-  pub offered : IsOffered penalty old (edges_for known rows old own busy) height found amount most
-  pub room : HaveRoom rows (own ++ old.hints) busy found.route
-  pub sends : new ≡ with_sent most (part_of found.route amount height) old
-  pub place_is : place ≡ length old.parts
-  pub best_is : is_best ≡ found.is_best
+-- an offer is expected to bring more than another one: its amount times the odds that it arrives
+abbrev pub brings_more : Offer → Offer → Bool
+brings_more offer other = nat_lt (other.amount * (1000000 + offer.odds)) (offer.amount * (1000000 + other.odds))
+
+-- the one that is expected to bring most: the earlier of two that bring as much
+abbrev pub better : Option Offer → Offer → Offer
+better None offer = offer
+better (Some best) offer = if brings_more offer best then offer else best
+
+-- a route for a piece of what is left
+pub record IsFit (prospect : Prospect) (payment : PaymentState) (offer : Offer) : Type 0 where
+  pub share : IsShare payment offer.amount
+  pub route : IsFoundFor prospect payment offer.amount offer.found
+  pub odds : offer.odds ≡ prospect.odds offer.found.route
+
+-- what was tried: the amounts before the next one, none of which has a likely route, and of the routes that they have the
+-- best
+pub data IsTried (prospect : Prospect) (payment : PaymentState) : Option ℕ → Option Offer → Type 0 where
+  start : IsTried prospect payment (Some 1) None
+  unlikely : (pieces : ℕ) (best : Option Offer) (offer : Offer) → IsTried prospect payment (Some pieces) best
+      → IsFit prospect payment offer → offer.amount ≡ piece payment pieces → is_likely offer ≡ false
+      → IsTried prospect payment (next_pieces payment pieces) (Some (better best offer))
+  without : (pieces : ℕ) (best : Option Offer) (reason : Unfound) → IsTried prospect payment (Some pieces) best
+      → IsReason prospect payment (piece payment pieces) reason → is_mendable reason ≡ true
+      → IsTried prospect payment (next_pieces payment pieces) best
+
+-- it is the first that is likely
+pub record IsFirstLikely (prospect : Prospect) (payment : PaymentState) (offer : Offer) : Type 0 where
+  pub pieces : ℕ
+  pub best : Option Offer
+  pub tried : IsTried prospect payment (Some pieces) best
+  pub amount : offer.amount ≡ piece payment pieces
+  pub likely : is_likely offer ≡ true
+
+-- what a part is sent over: a route for the first amount that has a likely one, or else of all tried the best one
+pub record IsOffered (prospect : Prospect) (payment : PaymentState) (offer : Offer) : Type 0 where
+  pub fit : IsFit prospect payment offer
+  pub chosen : IsFirstLikely prospect payment offer ⊎ IsTried prospect payment None (Some offer)
+
+-- why there is none: of the last amount that was tried, where none before has a route; or a reason that no smaller amount mends
+pub record IsLast (prospect : Prospect) (payment : PaymentState) (reason : Unfound) : Type 0 where
+  pub pieces : ℕ
+  pub best : Option Offer
+  pub tried : IsTried prospect payment (Some pieces) best
+  pub why : IsReason prospect payment (piece payment pieces) reason
+  pub last : is_mendable reason ≡ true → (best ≡ None) × (next_pieces payment pieces ≡ None)

@@ -7,7 +7,7 @@ pub struct Bounds {
     pub most_fee: u64,
     /// The greatest number of parts that are ever sent.
     pub most_tries: usize,
-    /// The greatest number of parts that are under way or have arrived, where the payee takes several. 0 stands for 1.
+    /// The greatest number of parts that are under way or have arrived, where the payee takes several: not 0.
     pub most_parts: usize,
     /// The least amount of a part, if the amount is divided, in msat.
     pub least_part: u64,

@@ -5,8 +5,8 @@ ghost use Rattle.std.specs.Option.{option_copied};
 ghost use Rattle.lgm_payer.specs.Overlays.{is_hinted, is_public, limit_by_kind, silent_by_kind, first_other, limit_left, silenced};
 ghost use Rattle.lgm_payer.specs.Searches.{refusal_left, refusal_of, blocks_left, or_fewer};
 
-use crate::carried::limit_of;
-use crate::ending::{Ending, FailureKind, MPP_TIMEOUT};
+use crate::failure::{Ending, FailureKind, MPP_TIMEOUT};
+use crate::overlays::limit_of;
 use crate::part::Part;
 use lgm_gossip::Point;
 use lgm_graph::{ExtraEdge, Hop, Limit};
@@ -77,8 +77,8 @@ pub(crate) fn limit_left(payer: &Point, hints: &[ExtraEdge], part: &Part) -> Opt
     ensures { result ≡ limit_left payer.now hints.now part.now }
 {
     match part.ending {
-        None | Some(Ending::Arrived) => None,
-        Some(Ending::Lost) => Some(limit_of(first_other(part.route.as_slice())?, 0)),
+        None => None,
+        Some(Ending::Unreadable) => Some(limit_of(first_other(part.route.as_slice())?, 0)),
         Some(Ending::Failed(failure)) => {
             let hop = part.route.as_slice().get(failure.place)?;
             let kind = FailureKind::of(failure.code);
@@ -139,8 +139,7 @@ fn blocks_left(part: &Part) -> u32
     match part.ending {
         Some(Ending::Failed(failure)) => {
             let is_before = failure.place < part.route.as_slice().len();
-            let is_far = matches!(FailureKind::of(failure.code), FailureKind::Expiry);
-            if is_before && is_far {
+            if is_before && FailureKind::of(failure.code).is_far() {
                 part.blocks.saturating_sub(1)
             } else {
                 u32::MAX

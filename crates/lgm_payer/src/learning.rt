@@ -4,14 +4,15 @@ ghost use Rattle.std.specs.Prelude.{◌≡◌, ℕ, take, OnOk};
 ghost use Rattle.std.specs.Option.{option_copied};
 ghost use Rattle.lgm_wire.specs.declared.point.Point.{Point as Node};
 ghost use Rattle.lgm_graph.specs.Estimates.{estimate_of};
-ghost use Rattle.lgm_payer.specs.Learning.{AreTaught, taught_public, taught_all, taught_refused, learnt_from, is_balance};
+ghost use Rattle.lgm_odds.specs.Lessons.{AreTaught};
+ghost use Rattle.lgm_payer.specs.Learning.{taught_public, taught_all, taught_refused, taught_arrived, learnt_from, learnt_arrived};
 
-use crate::carried::carried_over;
-use crate::ending::{Ending, FailureKind};
 use crate::exclusions::is_public;
-use crate::lesson::Lesson;
+use crate::failure::{Ending, FailureKind};
+use crate::part::Part;
 use lgm_gossip::Point;
 use lgm_graph::{Estimates, ExtraEdge, Hop};
+use lgm_odds::{Lesson, carried_over};
 use std::alloc::AllocError;
 
 /// Has estimates learn of a hop of the map's what it carries.
@@ -47,13 +48,6 @@ fn teach_all(
     Ok(())
 }
 
-/// Whether a failure speaks of a balance.
-fn is_balance(kind: FailureKind) -> bool
-    ensures { result ≡ is_balance kind }
-{
-    matches!(kind, FailureKind::Balance)
-}
-
 /// Has estimates learn of a hop of the map's that a node didn't take.
 fn teach_refused(
     kind: FailureKind,
@@ -69,7 +63,7 @@ fn teach_refused(
     let Some(hop) = hop else {
         return Ok(());
     };
-    if is_balance(kind) && is_public(payer, hints, hop) {
+    if kind.is_balance() && is_public(payer, hints, hop) {
         let carried = carried_over(busy, hop.scid, &hop.from);
         Lesson::Failed.teach(estimates, hop, carried)?;
     }
@@ -87,7 +81,7 @@ fn hops_before(route: &[Hop], place: usize) -> &[Hop]
     }
 }
 
-/// Has estimates learn what the end of a part over a route teaches, while these hops are under way. The only error is out of
+/// Has estimates learn what the failure of a part over a route teaches, while these hops are under way. The only error is out of
 /// memory, which leaves some of it learnt.
 pub(crate) fn learn(
     estimates: &mut Estimates,
@@ -100,8 +94,7 @@ pub(crate) fn learn(
     ensures { OnOk result (AreTaught (learnt_from payer.now hints.now busy.now route.now ending) estimates.old estimates.new) }
 {
     match ending {
-        Ending::Arrived => teach_all(Lesson::Gone, estimates, payer, hints, route),
-        Ending::Lost => Ok(()),
+        Ending::Unreadable => Ok(()),
         Ending::Failed(failure) => {
             let reached = hops_before(route, failure.place);
             teach_all(Lesson::Carried, estimates, payer, hints, reached)?;
@@ -116,4 +109,36 @@ pub(crate) fn learn(
             )
         }
     }
+}
+
+/// Has estimates learn of a part that arrived, unless it failed.
+fn teach_arrived(
+    estimates: &mut Estimates,
+    payer: &Point,
+    hints: &[ExtraEdge],
+    part: &Part,
+) -> Result<(), AllocError>
+    ensures { OnOk result (AreTaught (λ scid from estimate. taught_arrived payer.now hints.now scid from estimate part.now)
+        estimates.old estimates.new) }
+{
+    if part.is_held() {
+        teach_all(Lesson::Gone, estimates, payer, hints, part.route.as_slice())?;
+    }
+    Ok(())
+}
+
+/// Has estimates learn what it teaches that a payee took the whole. The only error is out of memory, which leaves some of it
+/// learnt.
+pub(crate) fn learn_arrived(
+    estimates: &mut Estimates,
+    payer: &Point,
+    hints: &[ExtraEdge],
+    parts: &[Part],
+) -> Result<(), AllocError>
+    ensures { OnOk result (AreTaught (learnt_arrived payer.now hints.now parts.now) estimates.old estimates.new) }
+{
+    for part in parts {
+        teach_arrived(estimates, payer, hints, part)?;
+    }
+    Ok(())
 }

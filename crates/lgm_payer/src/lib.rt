@@ -4,26 +4,33 @@
 #![tactic(auto)]
 
 mod bounds;
-mod carried;
-mod ending;
 mod exclusions;
+mod failure;
 mod invoice;
 mod learning;
-mod lesson;
 mod offer;
-mod outlook;
 mod overlays;
 mod part;
 mod payer;
+mod payer_fault;
 mod payment;
+mod preferring;
+mod sight;
+mod stage;
+mod under_way;
+mod unfound;
 mod unpaid;
 
 pub use bounds::Bounds;
-pub use ending::{Ending, Failure, FailureKind};
+pub use failure::{Ending, Failure, FailureKind};
 pub use invoice::Invoice;
 pub use offer::Sending;
-pub use outlook::{Outlook, Sight};
 pub use part::Part;
 pub use payer::Payer;
+pub use payer_fault::PayerFault;
 pub use payment::Payment;
+pub use preferring::usual_preferences;
+pub use sight::Sight;
+pub use stage::Stage;
+pub use unfound::Unfound;
 pub use unpaid::Unpaid;

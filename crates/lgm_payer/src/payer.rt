@@ -1,27 +1,37 @@
 //! Payers.
 
-ghost use Rattle.std.specs.Prelude.{◌≡◌, ◌↔◌, ◌++◌, ◌∷◌, ◌+◌, ◌*◌, ◌^◌, ◌<◌, [], None, Ok, Some, length, slice_get, IfOk, IfErr, IfSome, OnOk, OnErr};
-ghost use Rattle.std.specs.Bool.{OnFalse, OnTrue};
-ghost use Rattle.lgm_graph.specs.Graph.{IsGraphOf};
-ghost use Rattle.lgm_payer.specs.Payments.{left, is_under_way_at};
-ghost use Rattle.lgm_payer.specs.Payers.{all_busy, IsSentIn, IsUnpaidIn, IsEndedIn};
+ghost use Rattle.std.specs.Prelude.{◌≡◌, ◌⊎◌, ◌++◌, ◌∷◌, ◌+◌, ◌-◌, ◌^◌, ◌<◌, ◌≤◌, ℕ, [], Ok, length, IfOk, IfErr, IfSome, OnOk, OnErr};
+ghost use Rattle.lgm_payload.specs.Arrival.{custom_records};
+ghost use Rattle.lgm_payer.specs.Payments.{payment_of};
+ghost use Rattle.lgm_payer.specs.Payers.{payment_place};
+ghost use Rattle.lgm_payer.specs.Beginning.{IsBegun, IsUnbegun};
+ghost use Rattle.lgm_payer.specs.History.{LearntIsReported};
 
-use crate::carried::add_all_under_way;
-use crate::ending::Ending;
-use crate::lesson::beside;
-use crate::offer::Sending;
-use crate::outlook::{Outlook, Sight};
+mod events;
+mod next_part;
+
+use crate::bounds::Bounds;
+use crate::invoice::Invoice;
+use crate::payer_fault::PayerFault;
 use crate::payment::Payment;
-use crate::unpaid::Unpaid;
-use lgm_graph::{Estimates, Hop};
+use lgm_gossip::{Bytes, Point};
+use lgm_graph::{Estimates, ExtraEdge};
+use lgm_payload::CustomRecord;
 use std::alloc::{AllocError, Global};
 use std::marker::Model;
 
-/// A payer: the payments that it ever began, and what it has learnt of edges. Contracts see both.
+/// A payer: its payments, and what it has learnt of edges. Contracts see both.
+///
+/// Payments have numbers, in the order in which they were begun, and so have parts, over all payments, in the order in which they
+/// were sent. No number is given twice.
 #[derive(Drop)]
 pub struct Payer {
+    point: Point,
     payments: Vec<Payment>,
     learnt: Estimates,
+    begun: u64,
+    sent: u64,
+    settled: u64,
 }
 
 impl Model for Payer {
@@ -29,41 +39,86 @@ impl Model for Payer {
 
     ghost Value = { PayerState };
 
-    ghost view = { λ p. record { payments = p.payments.items; learnt = p.learnt } };
-}
-
-/// The hops of all parts that are under way, of all payments. The only error is out of memory.
-fn all_busy(alloc: Global, payments: &[Payment]) -> Result<Vec<Hop>, AllocError>
-    ensures { IfOk result (λ busy. busy.items ≡ all_busy payments.now) }
-{
-    let mut busy = Vec::new(alloc);
-    for payment in payments {
-        add_all_under_way(&mut busy, payment.parts())?;
-    }
-    Ok(busy)
+    ghost view = { λ p. record {
+      point = p.point;
+      payments = p.payments.items;
+      learnt = p.learnt;
+      begun = p.begun;
+      sent = p.sent;
+      settled = p.settled;
+    } };
 }
 
 impl Payer {
     /// A payer that has begun no payment, and has learnt this of edges. Allocates nothing.
-    pub fn new(alloc: Global, learnt: Estimates) -> Payer
-        ensures { result ≡ record { payments = []; learnt = learnt } }
+    pub fn new(alloc: Global, point: Point, learnt: Estimates) -> Payer
+        ensures { result ≡ record { point = point; payments = []; learnt = learnt; begun = 0; sent = 0; settled = 0 } }
     {
         Payer {
+            point,
             payments: Vec::new(alloc),
             learnt,
+            begun: 0,
+            sent: 0,
+            settled: 0,
         }
     }
 
-    /// Begins a payment, whose place is the number of those before it. The only error is out of memory, which changes nothing.
-    pub fn begin(&mut self, payment: Payment) -> Result<(), AllocError>
-        ensures begun { OnOk result (self.new ≡ record self.old { payments = self.old.payments ++ payment ∷ [] }) }
+    /// Begins a payment, and returns its number: how many were begun before. Of the hints, edges from each node to the next one,
+    /// those out of the payer are left out. The metadata are those of the invoice (BOLT 11, `m`), and the records are for the payee,
+    /// by ascending types.
+    ///
+    /// The amount isn't 0, nor is the bound of parts. Custom records that can't be sent are refused by
+    /// [`next_part`](Payer::next_part). An error changes nothing.
+    pub fn begin(
+        &mut self,
+        alloc: Global,
+        invoice: Invoice,
+        hints: &[ExtraEdge],
+        metadata: Option<Bytes>,
+        records: Vec<CustomRecord>,
+        bounds: Bounds,
+    ) -> Result<u64, PayerFault>
+        ensures begun { IfOk result (λ number.
+            IsBegun self.old self.new number invoice hints.now metadata (custom_records records.items) bounds) }
+        ensures why { IfErr result (IsUnbegun self.old invoice bounds) }
+        ensures stays { OnErr result (self.new ≡ self.old) }
+    {
+        if invoice.amount == 0 {
+            return Err(PayerFault::AmountZero);
+        }
+        if bounds.most_parts == 0 {
+            return Err(PayerFault::NoParts);
+        }
+        let number = self.begun;
+        let Some(next) = number.checked_add(1) else {
+            return Err(PayerFault::NumbersUsedUp);
+        };
+        let payment = Payment::of(
+            alloc, number, self.point, invoice, hints, metadata, records, bounds,
+        )?;
+        self.add(payment)?;
+        self.begun = next;
+        Ok(number)
+    }
+
+    /// Adds a payment. The only error is out of memory, which changes nothing.
+    fn add(&mut self, payment: Payment) -> Result<(), AllocError>
+        ensures added { OnOk result (self.new ≡ record self.old { payments = self.old.payments ++ payment ∷ [] }) }
         ensures stays { OnErr result (self.new ≡ self.old) }
     {
         self.payments.push(payment)?;
         Ok(())
     }
 
-    /// The payments that were ever begun.
+    /// The node that pays.
+    pub fn point(&self) -> &Point
+        ensures { result.now ≡ self.now.point }
+    {
+        &self.point
+    }
+
+    /// The payments that were begun, but for those that were forgotten.
     pub fn payments(&self) -> &[Payment]
         ensures { result.now ≡ self.now.payments }
     {
@@ -77,67 +132,28 @@ impl Payer {
         &self.learnt
     }
 
-    /// Sends the next part of a payment, beside all that is under way. None, if all of the amount is under way or has arrived.
-    /// An error changes nothing.
-    pub fn next_part(
-        &mut self,
-        alloc: Global,
-        payment: usize,
-        sight: &Sight<'_>,
-    ) -> Result<Option<Sending>, Unpaid>
-        requires there { payment < length self.old.payments }
-        requires beside { IsGraphOf sight.now.map.now sight.now.view.now }
-        requires few { IfSome (slice_get self.old.payments payment) (λ payment.
-            length sight.now.view.now.points + 2 * (length sight.now.own.now + length payment.hints) < 2 ^ 32) }
-        ensures sent { IfOk result (λ next. IfSome next (λ sending.
-            IsSentIn sight.now.preferences sight.now.view.now.known sight.now.map.now sight.now.own.now sight.now.height
-            self.old self.new payment sending.place sending.is_best)) }
-        ensures whole { result ≡ Ok None → IfSome (slice_get self.old.payments payment) (λ payment. left payment ≡ 0) }
-        ensures idle { result ≡ Ok None → self.new ≡ self.old }
-        ensures why { IfErr result (λ reason.
-            IsUnpaidIn sight.now.preferences sight.now.view.now.known sight.now.map.now sight.now.own.now sight.now.height
-            self.old payment reason) }
-        ensures stays { OnErr result (self.new ≡ self.old) }
+    /// How many parts were sent, over all payments: the number of the next one.
+    pub fn sent(&self) -> u64
+        ensures { result ≡ self.now.sent }
     {
-        let busy = all_busy(alloc, &self.payments)?;
-        let estimates = beside(&self.learnt, &busy)?;
-        let outlook = Outlook {
-            map: sight.map,
-            view: sight.view,
-            own: sight.own,
-            busy: &busy,
-            estimates: &estimates,
-            preferences: sight.preferences,
-            budget: sight.budget,
-            height: sight.height,
-        };
-        self.payments[payment].next_part(alloc, &outlook)
+        self.sent
     }
 
-    /// Notes that a part of a payment ended, and learns what that teaches. If it isn't under way, nothing changes, and the
-    /// result is false. The only error is out of memory, which changes nothing.
-    pub fn end(
-        &mut self,
-        alloc: Global,
-        payment: usize,
-        place: usize,
-        ending: Ending,
-    ) -> Result<bool, AllocError>
-        requires { payment < length self.old.payments }
-        ensures is { IfOk result (λ is. IfSome (slice_get self.old.payments payment) (λ payment.
-            is ≡ is_under_way_at place payment)) }
-        ensures ended { IfOk result (λ is. OnTrue is (IsEndedIn self.old self.new payment place ending)) }
-        ensures idle { IfOk result (λ is. OnFalse is (self.new ≡ self.old)) }
-        ensures stays { OnErr result (self.new ≡ self.old) }
+    /// What was learnt of each edge is the fold of all that was told of parts and payments, stated by the contract; the call does
+    /// nothing.
+    pub fn learns_by_reports(&self)
+        ensures { LearntIsReported }
     {
-        let busy = all_busy(alloc, &self.payments)?;
-        let mut learnt = self.learnt.copy()?;
-        let ended = &mut self.payments[payment];
-        ended.teach(&mut learnt, &busy, place, ending)?;
-        if !ended.end(place, ending) {
-            return Ok(false);
-        }
-        self.learnt = learnt;
-        Ok(true)
+        let _sent = self.sent;
+    }
+
+    /// The place of the payment with a number.
+    pub fn place(&self, number: u64) -> Option<usize>
+        ensures exact { result ≡ payment_place self.now.payments number }
+        ensures there { IfSome result (λ place. place < length self.now.payments) }
+    {
+        self.payments
+            .iter()
+            .position(|payment| payment.number() == number)
     }
 }

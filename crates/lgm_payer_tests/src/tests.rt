@@ -1,2 +1,4 @@
+mod events;
 mod made;
 mod parts;
+mod refusals;

@@ -2,7 +2,7 @@
 
 use lgm_gossip::Scid;
 use lgm_graph::{Estimates, ExtraEdge, Known, View};
-use lgm_payer::{Bounds, Ending, Failure, Invoice, Payer, Payment, Sending, Sight, Unpaid};
+use lgm_payer::{Bounds, Failure, Invoice, Payer, PayerFault, Sending, Sight, Unpaid};
 use lgm_route::{Preferences, SearchBudget};
 use lgm_store::Map;
 use lgm_test_gossip::{Item, charging, point};
@@ -23,18 +23,18 @@ pub fn two_ways() -> [Item; 8] {
     ]
 }
 
-/// The payer's channel: node 9's with node 0, which can send this much, in msat.
-pub fn own(max: u64) -> [ExtraEdge; 1] {
-    [ExtraEdge {
-        scid: Scid::from_u64(90),
-        from: point(9),
-        to: point(0),
+/// An edge that charges nothing, and carries up to this much, in msat.
+pub fn edge(scid: u64, from: u16, to: u16, max: u64) -> ExtraEdge {
+    ExtraEdge {
+        scid: Scid::from_u64(scid),
+        from: point(from),
+        to: point(to),
         base: 0,
         millionths: 0,
         delta: 40,
         min: 1,
         max,
-    }]
+    }
 }
 
 /// Any fee up to 100 msat, 4 tries, and parts of 100 msat or more.
@@ -46,36 +46,46 @@ pub const BOUNDS: Bounds = Bounds {
     most_blocks: 2_016,
 };
 
-/// The payment of 1,000 msat to node 3, which takes several parts.
-pub fn payment(alloc: Global, bounds: Bounds) -> Payment {
-    let invoice = Invoice {
+/// The invoice of node 3 for an amount, in msat. It takes several parts.
+pub fn invoice(amount: u64) -> Invoice {
+    Invoice {
         payee: point(3),
-        amount: 1_000,
+        amount,
+        secret: [7; 32],
         final_delta: 18,
         basic_mpp: true,
-    };
-    Payment::new(alloc, point(9), invoice, Vec::new(alloc), bounds)
+    }
 }
 
-/// A payer that begins one payment.
-pub fn payer(alloc: Global, bounds: Bounds) -> Result<Box<Payer>, AllocError> {
-    let mut payer = Box::new(alloc, Payer::new(alloc, Estimates::new(alloc)))?;
-    payer.begin(payment(alloc, bounds))?;
+/// Begins a payment of 1,000 msat.
+pub fn begin(alloc: Global, payer: &mut Payer, bounds: Bounds) -> Result<u64, PayerFault> {
+    let records = Vec::new(alloc);
+    payer.begin(alloc, invoice(1_000), &[], None, records, bounds)
+}
+
+/// Node 9, which begins one payment.
+pub fn payer(alloc: Global, bounds: Bounds) -> Result<Box<Payer>, PayerFault> {
+    let made = Payer::new(alloc, point(9), Estimates::new(alloc));
+    let mut payer = match Box::new(alloc, made) {
+        Ok(payer) => payer,
+        Err(e) => return Err(AllocError::from(e).into()),
+    };
+    begin(alloc, &mut payer, bounds)?;
     Ok(payer)
 }
 
-/// The next part of a payment, at height 100, for a payer that would rather pay 1 msat than send over one more hop.
-pub fn next(
+/// The next part of a payment, at height 100, for a payer that would rather pay 1 msat than send over one more hop, and whose
+/// channel with node 0 can send this much, in msat, with so many parts reckoned.
+pub fn next_part(
     rt: &impl Abort,
     alloc: Global,
     payer: &mut Payer,
-    payment: usize,
+    payment: u64,
     map: &Map,
     max: u64,
+    reckoned: u64,
 ) -> Result<Option<Sending>, Unpaid> {
     assert!(rt; map.count() <= 1_000_000);
-    assert!(rt; payment < payer.payments().len());
-    assert!(rt; payer.payments()[payment].hints().len() <= 1_000_000);
     let made = View::of(alloc, map, &Known::all())?;
     let view = match Box::new(alloc, made) {
         Ok(view) => view,
@@ -84,60 +94,61 @@ pub fn next(
     let sight = Sight {
         map,
         view: &view,
-        own: &own(max),
-        preferences: Preferences {
+        own: &[edge(90, 9, 0, max)],
+        reckoned,
+        preferences: Some(Preferences {
             failure_msat: 0,
             hop_msat: 1,
-        },
+        }),
         budget: SearchBudget::any(),
         height: 100,
     };
     payer.next_part(alloc, payment, &sight)
 }
 
-/// The end of a part of a payment.
-pub fn end(
+/// Its number, where the channel can send this much once parts of a lower number than 0 are reckoned: none.
+pub fn next(
     rt: &impl Abort,
     alloc: Global,
     payer: &mut Payer,
-    payment: usize,
-    place: usize,
-    ending: Ending,
-) -> Result<(), AllocError> {
-    assert!(rt; payment < payer.payments().len());
-    let ended = payer.end(alloc, payment, place, ending)?;
-    assert!(rt; ended);
-    Ok(())
+    payment: u64,
+    map: &Map,
+    max: u64,
+) -> Result<Option<u64>, Unpaid> {
+    match next_part(rt, alloc, payer, payment, map, max, 0)? {
+        Some(sending) => Ok(Some(sending.part)),
+        None => Ok(None),
+    }
 }
 
 /// A failure of the node at a place.
-pub fn failure(place: usize, code: u16) -> Ending {
-    Ending::Failed(Failure {
+pub fn failure(place: usize, code: u16) -> Failure {
+    Failure {
         place,
         code,
         is_renewed: false,
-    })
+    }
 }
 
-/// Of each part that was sent the amount, the fee, and the id of the last hop.
+/// Of each part that was sent for the payment at a place the amount, the fee, and the id of the last hop.
 pub fn sent(
     rt: &impl Abort,
     alloc: Global,
     payer: &Payer,
-    payment: usize,
+    place: usize,
 ) -> Result<Vec<(u64, u64, u64)>, AllocError> {
-    assert!(rt; payment < payer.payments().len());
+    assert!(rt; place < payer.payments().len());
     let mut sent = Vec::new(alloc);
-    for part in payer.payments()[payment].parts() {
+    for part in payer.payments()[place].parts() {
         let hops = part.route.as_slice();
         sent.push((part.amount, part.fee, hops[hops.len() - 1].scid.to_u64()))?;
     }
     Ok(sent)
 }
 
-/// Whether a payment is paid, what is left of it, and its fees.
-pub fn state(rt: &impl Abort, payer: &Payer, payment: usize) -> (bool, u64, u64) {
-    assert!(rt; payment < payer.payments().len());
-    let payment = &payer.payments()[payment];
+/// Whether the payment at a place is paid, what is left of it, and its fees.
+pub fn state(rt: &impl Abort, payer: &Payer, place: usize) -> (bool, u64, u64) {
+    assert!(rt; place < payer.payments().len());
+    let payment = &payer.payments()[place];
     (payment.is_paid(), payment.left(), payment.fees())
 }

@@ -1,5 +1,6 @@
 use Rattle.std.proofs.Common.{take}
-use Rattle.lgm_payer.specs.Learning.{AreTaught, taught_all}
+use Rattle.lgm_odds.specs.Lessons.{AreTaught}
+use Rattle.lgm_payer.specs.Learning.{taught_all}
 use Rattle.lgm_payer.proofs.learning.teach_all.Given as goal
 
 -- each was taught by the first hops

@@ -4,5 +4,4 @@ use Rattle.lgm_payer.proofs.overlays.silence_by_failures.Given as goal
 
 -- what the first ones give was added
 abbrev pub invariant-loop-part : goal.invariant-loop-part
-invariant-loop-part l =
-    l.overlay ≡ record l.initial.overlay { silent = l.initial.overlay.silent ++ all_silenced l.payer l.hints (take l.part-index l.parts) }
+invariant-loop-part l = l.silent.items ≡ l.initial.silent.items ++ all_silenced l.payer l.hints (take l.part-index l.parts)

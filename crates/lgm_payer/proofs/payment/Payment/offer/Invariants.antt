@@ -1,15 +1,18 @@
-use Rattle.std.proofs.Common.{◌≤◌}
-use Rattle.lgm_graph.specs.Overlay.{overlaid_edges}
-use Rattle.lgm_route.specs.Preferred.{penalty_at}
-use Rattle.lgm_payer.specs.Searches.{IsReached}
+use Rattle.std.proofs.Common.{◌≤◌, ◌+◌, ◌-◌, Some}
+use Rattle.std.specs.Prelude.{IfSome}
+use Rattle.lgm_payer.specs.Payments.{parts_left}
+use Rattle.lgm_payer.specs.Searches.{IsTried, IsFit}
+use Rattle.lgm_payer.specs.Looking.{prospect_at}
 use Rattle.lgm_payer.proofs.payment.Payment.offer.Given as goal
 
--- the amount that none is to be more than only falls, and was reached by dividing
-abbrev pub invariant-halving : goal.invariant-halving
-invariant-halving l =
-    (1 ≤ l.most) × (l.most ≤ l.self.most_part)
-    × IsReached (penalty_at l.outlook.preferences l.outlook.estimates.now) l.self
-    (overlaid_edges l.outlook.view.now.known l.outlook.map.now l.overlay) l.outlook.height l.most
+-- what was tried before, and that the best of it fits
+abbrev pub invariant-dividing : goal.invariant-dividing
+invariant-dividing l = record {
+  some : 1 ≤ l.pieces;
+  few : 2 ≤ l.pieces → l.pieces ≤ parts_left l.self;
+  tried : IsTried (prospect_at l.outlook) l.self (Some l.pieces) l.best;
+  fits : IfSome l.best (IsFit (prospect_at l.outlook) l.self);
+}
 
-abbrev pub decreases-halving : goal.decreases-halving
-decreases-halving l = l.most
+abbrev pub decreases-dividing : goal.decreases-dividing
+decreases-dividing l = parts_left l.self + 2 - l.pieces

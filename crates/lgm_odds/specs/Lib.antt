@@ -1,0 +1,4 @@
+pub mod Carried
+pub mod Lessons
+pub mod RouteOdds
+pub mod Fading

@@ -1,0 +1,123 @@
+-- Laws of what a part is searched over.
+use Rattle.std.proofs.Common.{◌≡◌, ◌∙◌, ℕ, ◌<◌, List, length, get_or, Option, Some, Result, Ok, Err, refl, sym, ap, subst, inr}
+use Rattle.std.specs.Prelude.{map, slice_get, IfOk, IfErr, IfSome}
+use Rattle.std.proofs.lemmas.Option.{slice_get-get_or}
+use Rattle.lgm_wire.specs.declared.point.Point.{Point}
+use Rattle.lgm_store.specs.Rows.{Rows}
+use Rattle.lgm_graph.specs.declared.estimate.Estimate.{Estimate}
+use Rattle.lgm_graph.specs.declared.overlay.ExtraEdge.{ExtraEdge}
+use Rattle.lgm_graph.specs.declared.overlay.Limit.{Limit}
+use Rattle.lgm_graph.specs.declared.route.Hop.{Hop}
+use Rattle.std.specs.Option.{unwrap_or}
+use Rattle.lgm_graph.specs.Estimates.{Entries, estimate_of}
+use Rattle.lgm_graph.specs.Overlay.{OverlayParts, extra_edge, overlaid_edges}
+use Rattle.lgm_route.specs.declared.preferences.Preferences.{Preferences}
+use Rattle.lgm_odds.specs.RouteOdds.{route_odds}
+use Rattle.lgm_odds.specs.Lessons.{believed}
+use Rattle.lgm_payer.specs.declared.offer.Offer.{Offer}
+use Rattle.lgm_payer.specs.declared.unfound.Unfound.{Unfound}
+use Rattle.lgm_payer.specs.Payments.{PaymentState}
+use Rattle.lgm_payer.specs.UnderWay.{all_under_way, all_since}
+use Rattle.lgm_payer.specs.Overlays.{extra_of, limits_of, silent_of, overlay_of}
+use Rattle.lgm_payer.specs.Preferring.{preferences_for}
+use Rattle.lgm_payer.specs.Searches.{Prospect, penalty_with, prospect_of, IsOffered, IsLast}
+use Rattle.lgm_payer.specs.Payers.{PayerState, Seen, prospect_in}
+use Rattle.lgm_payer.specs.Looking.{IsUnfound}
+
+-- ---- as it is made
+
+abbrev pub prospect : Preferences → (ℕ → Point → Estimate) → Option (List ℕ) → Rows → List ExtraEdge → List Limit → OverlayParts → ℕ → Prospect
+prospect preferences beliefs known rows extra limits overlay height = record {
+  penalty = penalty_with preferences beliefs;
+  odds = route_odds rows extra limits beliefs;
+  edges = overlaid_edges known rows overlay;
+  height = height;
+}
+
+-- an overlay that is made of what a payment knows
+pub overlay_is : (payment : PaymentState) (rows : Rows) (own : List ExtraEdge) (since busy : List Hop) (extra : List ExtraEdge)
+    (limits : List Limit) (silent : List Point) (overlay : OverlayParts)
+    → overlay ≡ record { extra = map extra_edge extra; limits = limits; silent = silent }
+    → extra ≡ extra_of payment own since busy → limits ≡ limits_of payment rows busy → silent ≡ silent_of payment
+    → overlay ≡ overlay_of payment rows own since busy
+overlay_is payment rows own since busy extra limits silent overlay is edges most nodes =
+    is ∙ ap (λ (list : List ExtraEdge). let parts : OverlayParts = record { extra = map extra_edge list; limits = limits; silent = silent } in parts) edges
+    ∙ ap (λ (list : List Limit). let parts : OverlayParts =
+    record { extra = map extra_edge (extra_of payment own since busy); limits = list; silent = silent } in parts) most
+    ∙ ap (λ (list : List Point). let parts : OverlayParts =
+    record { extra = map extra_edge (extra_of payment own since busy); limits = limits_of payment rows busy; silent = list } in parts) nodes
+
+-- a prospect that is made of it
+pub prospect_is : (preferences chosen : Preferences) (beliefs : ℕ → Point → Estimate) (known : Option (List ℕ)) (rows : Rows)
+    (payment : PaymentState) (own : List ExtraEdge) (since busy : List Hop) (height : ℕ) (extra : List ExtraEdge)
+    (limits : List Limit) (overlay : OverlayParts) → preferences ≡ chosen
+    → extra ≡ extra_of payment own since busy → limits ≡ limits_of payment rows busy
+    → overlay ≡ overlay_of payment rows own since busy
+    → prospect preferences beliefs known rows extra limits overlay height
+    ≡ prospect_of chosen beliefs known rows payment own since busy height
+prospect_is preferences chosen beliefs known rows payment own since busy height extra limits overlay prefers edges most over =
+    ap (λ (p : Preferences). prospect p beliefs known rows extra limits overlay height) prefers
+    ∙ ap (λ (list : List ExtraEdge). prospect chosen beliefs known rows list limits overlay height) edges
+    ∙ ap (λ (list : List Limit). prospect chosen beliefs known rows (extra_of payment own since busy) list overlay height) most
+    ∙ ap (λ (parts : OverlayParts).
+    prospect chosen beliefs known rows (extra_of payment own since busy) (limits_of payment rows busy) parts height) over
+
+-- what is offered, or why nothing is, over one that is the same
+pub offered_over : (made prospect : Prospect) (payment : PaymentState) (answer : Result Offer Unfound) → made ≡ prospect
+    → IfOk answer (IsOffered made payment) → IfOk answer (IsOffered prospect payment)
+offered_over made prospect payment answer same offered =
+    subst (λ (p : Prospect). IfOk answer (IsOffered p payment)) same offered
+
+pub unfound_over : (made prospect : Prospect) (payment : PaymentState) (answer : Result Offer Unfound) → made ≡ prospect
+    → IfErr answer (IsLast made payment) → IfErr answer (IsUnfound prospect payment)
+unfound_over made prospect payment (Ok offer) same why = why
+unfound_over made prospect payment (Err reason) same why =
+    subst (λ (p : Prospect). IsUnfound p payment reason) same (inr why)
+
+-- ---- of a payment of a payer
+
+-- the payment at a place is the one that is read there
+pub read_there : (payments : List PaymentState) (place : ℕ) (before : PaymentState) → place < length payments
+    → before ≡ get_or payments place before → slice_get payments place ≡ Some before
+read_there payments place before lt is =
+    slice_get-get_or payments place before lt ∙ ap (λ (p : PaymentState). Some p) (sym is)
+
+-- what is believed by estimates beside hops
+pub beliefs_are : (estimates inside learnt : Entries) (beside : Option Entries) (hops busy : List Hop)
+    → estimates ≡ unwrap_or beside inside → estimate_of (unwrap_or beside inside) ≡ believed inside hops
+    → inside ≡ learnt → hops ≡ busy → estimate_of estimates ≡ believed learnt busy
+beliefs_are estimates inside learnt beside hops busy is believes same all =
+    ap (λ (e : Entries). estimate_of e) is ∙ believes ∙ ap (λ (e : Entries). believed e hops) same
+    ∙ ap (λ (list : List Hop). believed learnt list) all
+
+-- what is searched over for it beside all that is under way
+module _ (seen : Seen) (payer : PayerState) (place : ℕ) (before : PaymentState) (beliefs : ℕ → Point → Estimate)
+    (since busy : List Hop) (there : slice_get payer.payments place ≡ Some before)
+    (believes : beliefs ≡ believed payer.learnt (all_under_way payer.payments))
+    (later : since ≡ all_since seen.reckoned payer.payments) (all : busy ≡ all_under_way payer.payments) where
+  beside : prospect_of (preferences_for seen.preferences before) beliefs seen.known seen.rows before seen.own since busy seen.height
+      ≡ prospect_in seen payer before
+  beside =
+      ap (λ (b : ℕ → Point → Estimate).
+      prospect_of (preferences_for seen.preferences before) b seen.known seen.rows before seen.own since busy seen.height) believes
+      ∙ ap (λ (hops : List Hop). prospect_of (preferences_for seen.preferences before)
+      (believed payer.learnt (all_under_way payer.payments)) seen.known seen.rows before seen.own hops busy seen.height) later
+      ∙ ap (λ (hops : List Hop). prospect_of (preferences_for seen.preferences before)
+      (believed payer.learnt (all_under_way payer.payments)) seen.known seen.rows before seen.own
+      (all_since seen.reckoned payer.payments) hops seen.height) all
+
+  pub offered_beside : (answer : Result Offer Unfound)
+      → IfOk answer (IsOffered (prospect_of (preferences_for seen.preferences before) beliefs seen.known seen.rows before seen.own
+      since busy seen.height) before)
+      → IfOk answer (λ offer. IfSome (slice_get payer.payments place) (λ payment. IsOffered (prospect_in seen payer payment) payment offer))
+  offered_beside (Ok offer) offered =
+      rw there (subst (λ (p : Prospect). IsOffered p before offer) beside offered)
+  offered_beside (Err reason) offered = offered
+
+  pub unfound_beside : (answer : Result Offer Unfound)
+      → IfErr answer (IsUnfound (prospect_of (preferences_for seen.preferences before) beliefs seen.known seen.rows before seen.own
+      since busy seen.height) before)
+      → IfErr answer (λ reason. IfSome (slice_get payer.payments place) (λ payment. IsUnfound (prospect_in seen payer payment) payment reason))
+  unfound_beside (Ok offer) why = why
+  unfound_beside (Err reason) why =
+      rw there (subst (λ (p : Prospect). IsUnfound p before reason) beside why)
