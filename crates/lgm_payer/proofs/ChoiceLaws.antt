@@ -1,9 +1,9 @@
 -- Laws of what was tried, and of what is chosen.
-use Rattle.std.proofs.Common.{◌≡◌, ℕ, Bool, true, false, Option, Some, None, Result, Ok, Err, refl, subst, sym, inr, true≢false, ◌∙◌, if◌then◌else◌}
+use Rattle.std.proofs.Common.{◌≡◌, ◌≤◌, ℕ, Bool, true, false, Option, Some, None, Result, Ok, Err, refl, subst, sym, inr, true≢false, ◌∙◌, if◌then◌else◌}
 use Rattle.std.specs.Prelude.{IfSome, IfOk, IfErr}
 use Rattle.lgm_payer.specs.declared.offer.Offer.{Offer}
 use Rattle.lgm_payer.specs.declared.unfound.Unfound.{Unfound}
-use Rattle.lgm_payer.specs.Payments.{PaymentState}
+use Rattle.lgm_payer.specs.Payments.{PaymentState, left}
 use Rattle.lgm_payer.specs.Reasons.{is_mendable}
 use Rattle.lgm_payer.specs.Searches.{Prospect, IsFit, IsTried, unlikely, without, IsReason, IsOffered, IsLast}
 use Rattle.lgm_payer.specs.Searches.{piece, next_pieces, is_likely, brings_more, better}
@@ -52,10 +52,10 @@ module _ (prospect : Prospect) (payment : PaymentState) where
   }
 
   -- the best is offered once all amounts were tried
-  pub best_offered : (best : Option Offer) (reason : Unfound) → IsTried prospect payment None best
+  pub best_offered : (best : Option Offer) (reason : Unfound) → left payment ≤ prospect.room → IsTried prospect payment None best
       → IfSome best (IsFit prospect payment) → IfOk (best_or best reason) (IsOffered prospect payment)
-  best_offered None reason tried fits = tt
-  best_offered (Some offer) reason tried fits = record { fit = fits; chosen = inr tried }
+  best_offered None reason room tried fits = tt
+  best_offered (Some offer) reason room tried fits = record { room = room; fit = fits; chosen = inr tried }
 
   -- or there is none
   pub none_offered : (pieces amount : ℕ) (best : Option Offer) (reason : Unfound)

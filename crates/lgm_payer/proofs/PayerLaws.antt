@@ -23,7 +23,7 @@ use Rattle.lgm_payer.specs.Payments.{PaymentState, with_sent}
 use Rattle.lgm_payer.specs.UnderWay.{all_under_way, all_since}
 use Rattle.lgm_payer.specs.Overlays.{extra_of, limits_of}
 use Rattle.lgm_payer.specs.Preferring.{preferences_for}
-use Rattle.lgm_payer.specs.Searches.{IsOffered, penalty_with}
+use Rattle.lgm_payer.specs.Searches.{IsOffered, penalty_with, room_out}
 use Rattle.lgm_payer.specs.Payers.{PayerState, Seen, IsPayment, IsSentIn, IsUnpaidIn, prospect_in}
 use Rattle.lgm_payer.specs.Looking.{IsReady}
 use Rattle.lgm_payer.proofs.RoomLaws.{found_room}
@@ -54,7 +54,7 @@ sent_in seen old new payment place part odds is_best payloads before after offer
           found_room seen.rows before seen.own since busy seen.known
           (penalty_with (preferences_for seen.preferences before) (believed old.learnt busy))
           (route_odds seen.rows (extra_of before seen.own since busy) (limits_of before seen.rows busy) (believed old.learnt busy))
-          seen.height offer.amount offer.found offered.fit.share.some offered.fit.route;
+          seen.height (room_out before.payer (extra_of before seen.own since busy)) offer.amount offer.found offered.fit.share.some offered.fit.route;
       payloads_are = built;
       number = numbered;
       odds_are = odd;

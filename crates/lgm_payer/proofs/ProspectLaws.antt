@@ -1,5 +1,5 @@
 -- Laws of what a part is searched over.
-use Rattle.std.proofs.Common.{◌≡◌, ◌∙◌, ℕ, ◌<◌, List, length, get_or, Option, Some, Result, Ok, Err, refl, sym, ap, subst, inr}
+use Rattle.std.proofs.Common.{◌≡◌, ◌∙◌, ℕ, ◌<◌, List, length, get_or, Option, Some, Result, Ok, Err, refl, sym, ap, subst}
 use Rattle.std.specs.Prelude.{map, slice_get, IfOk, IfErr, IfSome}
 use Rattle.std.proofs.lemmas.Option.{slice_get-get_or}
 use Rattle.lgm_wire.specs.declared.point.Point.{Point}
@@ -20,18 +20,19 @@ use Rattle.lgm_payer.specs.Payments.{PaymentState}
 use Rattle.lgm_payer.specs.UnderWay.{all_under_way, all_since}
 use Rattle.lgm_payer.specs.Overlays.{extra_of, limits_of, silent_of, overlay_of}
 use Rattle.lgm_payer.specs.Preferring.{preferences_for}
-use Rattle.lgm_payer.specs.Searches.{Prospect, penalty_with, prospect_of, IsOffered, IsLast}
+use Rattle.lgm_payer.specs.Searches.{Prospect, penalty_with, prospect_of, room_out, IsOffered}
 use Rattle.lgm_payer.specs.Payers.{PayerState, Seen, prospect_in}
 use Rattle.lgm_payer.specs.Looking.{IsUnfound}
 
 -- ---- as it is made
 
-abbrev pub prospect : Preferences → (ℕ → Point → Estimate) → Option (List ℕ) → Rows → List ExtraEdge → List Limit → OverlayParts → ℕ → Prospect
-prospect preferences beliefs known rows extra limits overlay height = record {
+abbrev pub prospect : Preferences → (ℕ → Point → Estimate) → Option (List ℕ) → Rows → List ExtraEdge → List Limit → OverlayParts → ℕ → ℕ → Prospect
+prospect preferences beliefs known rows extra limits overlay height room = record {
   penalty = penalty_with preferences beliefs;
   odds = route_odds rows extra limits beliefs;
   edges = overlaid_edges known rows overlay;
   height = height;
+  room = room;
 }
 
 -- an overlay that is made of what a payment knows
@@ -50,17 +51,20 @@ overlay_is payment rows own since busy extra limits silent overlay is edges most
 -- a prospect that is made of it
 pub prospect_is : (preferences chosen : Preferences) (beliefs : ℕ → Point → Estimate) (known : Option (List ℕ)) (rows : Rows)
     (payment : PaymentState) (own : List ExtraEdge) (since busy : List Hop) (height : ℕ) (extra : List ExtraEdge)
-    (limits : List Limit) (overlay : OverlayParts) → preferences ≡ chosen
+    (limits : List Limit) (overlay : OverlayParts) (room : ℕ) → preferences ≡ chosen
     → extra ≡ extra_of payment own since busy → limits ≡ limits_of payment rows busy
-    → overlay ≡ overlay_of payment rows own since busy
-    → prospect preferences beliefs known rows extra limits overlay height
+    → overlay ≡ overlay_of payment rows own since busy → room ≡ room_out payment.payer extra
+    → prospect preferences beliefs known rows extra limits overlay height room
     ≡ prospect_of chosen beliefs known rows payment own since busy height
-prospect_is preferences chosen beliefs known rows payment own since busy height extra limits overlay prefers edges most over =
-    ap (λ (p : Preferences). prospect p beliefs known rows extra limits overlay height) prefers
-    ∙ ap (λ (list : List ExtraEdge). prospect chosen beliefs known rows list limits overlay height) edges
-    ∙ ap (λ (list : List Limit). prospect chosen beliefs known rows (extra_of payment own since busy) list overlay height) most
+prospect_is preferences chosen beliefs known rows payment own since busy height extra limits overlay room prefers edges most over sends =
+    ap (λ (p : Preferences). prospect p beliefs known rows extra limits overlay height room) prefers
+    ∙ ap (λ n. prospect chosen beliefs known rows extra limits overlay height n) sends
+    ∙ ap (λ (list : List ExtraEdge). prospect chosen beliefs known rows list limits overlay height (room_out payment.payer list)) edges
+    ∙ ap (λ (list : List Limit). prospect chosen beliefs known rows (extra_of payment own since busy) list overlay height
+    (room_out payment.payer (extra_of payment own since busy))) most
     ∙ ap (λ (parts : OverlayParts).
-    prospect chosen beliefs known rows (extra_of payment own since busy) (limits_of payment rows busy) parts height) over
+    prospect chosen beliefs known rows (extra_of payment own since busy) (limits_of payment rows busy) parts height
+    (room_out payment.payer (extra_of payment own since busy))) over
 
 -- what is offered, or why nothing is, over one that is the same
 pub offered_over : (made prospect : Prospect) (payment : PaymentState) (answer : Result Offer Unfound) → made ≡ prospect
@@ -69,10 +73,10 @@ offered_over made prospect payment answer same offered =
     subst (λ (p : Prospect). IfOk answer (IsOffered p payment)) same offered
 
 pub unfound_over : (made prospect : Prospect) (payment : PaymentState) (answer : Result Offer Unfound) → made ≡ prospect
-    → IfErr answer (IsLast made payment) → IfErr answer (IsUnfound prospect payment)
+    → IfErr answer (IsUnfound made payment) → IfErr answer (IsUnfound prospect payment)
 unfound_over made prospect payment (Ok offer) same why = why
 unfound_over made prospect payment (Err reason) same why =
-    subst (λ (p : Prospect). IsUnfound p payment reason) same (inr why)
+    subst (λ (p : Prospect). IsUnfound p payment reason) same why
 
 -- ---- of a payment of a payer
 

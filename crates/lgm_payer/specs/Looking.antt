@@ -14,7 +14,7 @@ use Rattle.lgm_payer.specs.declared.stage.Stage.TheVariants.{Open, Abandoned}
 use Rattle.lgm_payer.specs.declared.unpaid.Unpaid.{Unpaid}
 use Rattle.lgm_payer.specs.declared.unpaid.Unpaid.TheVariants as unpaid
 use Rattle.lgm_payer.specs.Payments.{PaymentState, left}
-use Rattle.lgm_payer.specs.Searches.{Prospect, penalty_with, refusal_of, IsLast}
+use Rattle.lgm_payer.specs.Searches.{Prospect, penalty_with, refusal_of, IsShort, IsLast}
 use Rattle.lgm_payer.specs.Payers.{PayerState, Seen, sight_fault}
 
 -- the prospect of an outlook
@@ -24,11 +24,13 @@ prospect_at outlook = record {
   odds = route_odds outlook.map.now outlook.extra.now outlook.limits.now (estimate_of outlook.estimates.now);
   edges = overlaid_edges outlook.view.now.known outlook.map.now outlook.overlay.now;
   height = outlook.height;
+  room = outlook.room;
 }
 
--- out of memory, or why there is no route
+-- out of memory, or the payer's channels can't send what is left, or why there is no route
 abbrev pub IsUnfound : Prospect → PaymentState → Unfound → Type 0
-IsUnfound prospect payment reason = (reason ≡ unfound.Search (Fault faults.NoMemory)) ⊎ IsLast prospect payment reason
+IsUnfound prospect payment reason =
+    (reason ≡ unfound.Search (Fault faults.NoMemory)) ⊎ (IsShort prospect payment reason ⊎ IsLast prospect payment reason)
 
 -- the best of what was tried, or else the reason of the last
 abbrev pub best_or : Option Offer → Unfound → Result Offer Unfound

@@ -24,7 +24,7 @@ use Rattle.lgm_payer.specs.Payments.{PaymentState, left, is_paid, with_sent}
 use Rattle.lgm_payer.specs.UnderWay.{all_under_way, all_since}
 use Rattle.lgm_payer.specs.Overlays.{HaveRoom}
 use Rattle.lgm_payer.specs.Preferring.{preferences_for}
-use Rattle.lgm_payer.specs.Searches.{Prospect, prospect_of, refusal_of, IsOffered, IsLast}
+use Rattle.lgm_payer.specs.Searches.{Prospect, prospect_of, refusal_of, IsOffered, IsShort, IsLast}
 
 -- who pays; its payments, without those that it forgot; what was learnt of edges; how many payments were begun, and how many
 -- parts were sent, over all payments; and how many of these the payer's channels have to reckon
@@ -127,7 +127,8 @@ IsUnpaid seen payer payment unpaid.Abandoned = payment.stage ≡ Abandoned
 IsUnpaid seen payer payment (PayeeRefused code) = refusal_of payment.parts ≡ Some code
 IsUnpaid seen payer payment TriesUsedUp = payment.bounds.most_tries ≤ length payment.parts
 IsUnpaid seen payer payment (Unfound reason) =
-    (reason ≡ unfound.Search (Fault faults.NoMemory)) ⊎ IsLast (prospect_in seen payer payment) payment reason
+    (reason ≡ unfound.Search (Fault faults.NoMemory))
+    ⊎ (IsShort (prospect_in seen payer payment) payment reason ⊎ IsLast (prospect_in seen payer payment) payment reason)
 IsUnpaid seen payer payment (Payloads fault) =
     (fault ≡ arrivals.NoMemory) ⊎ ((offer : Offer) × IsOffered (prospect_in seen payer payment) payment offer
     × (built_for payment.arrival offer.found.route ≡ Err fault))

@@ -1,10 +1,10 @@
 -- The search for a payment's next part: what is asked, what its answer is, and which part is chosen.
-use Rattle.std.specs.Prelude.{◌≡◌, ◌⊎◌, ℕ, ◌+◌, ◌-◌, ◌*◌, ◌/◌, ◌^◌, ◌<◌, ◌≤◌, Bool, true, false, not, ◌&&◌, ◌==◌, nat_lt, nat_le, min, max, List, [], ◌∷◌, length, fold}
+use Rattle.std.specs.Prelude.{◌≡◌, ◌⊎◌, ℕ, ◌+◌, ◌-◌, ◌*◌, ◌/◌, ◌^◌, ◌<◌, ◌≤◌, Bool, true, false, not, ◌&&◌, ◌==◌, nat_lt, nat_le, min, max, List, [], ◌∷◌, length, fold, sum_by}
 use Rattle.std.specs.Prelude.{Option, Some, None, Result, Ok, Err, if◌then◌else◌}
 use Rattle.std.specs.Option.{option_or}
 use Rattle.std.specs.Int.{div_ceil}
 use Rattle.lgm_wire.specs.declared.point.Point.{Point}
-use Rattle.lgm_store.specs.Rows.{Rows}
+use Rattle.lgm_store.specs.Rows.{Rows, is_point}
 use Rattle.lgm_graph.specs.Edges.{PointEdge}
 use Rattle.lgm_graph.specs.Overlay.{overlaid_edges}
 use Rattle.lgm_graph.specs.Route.{sent}
@@ -27,7 +27,7 @@ use Rattle.lgm_payer.specs.declared.invoice.Invoice.{Invoice}
 use Rattle.lgm_payer.specs.declared.offer.Offer.{Offer}
 use Rattle.lgm_payer.specs.declared.part.Part.{Part}
 use Rattle.lgm_payer.specs.declared.unfound.Unfound.{Unfound}
-use Rattle.lgm_payer.specs.declared.unfound.Unfound.TheVariants.{Search, TooDear}
+use Rattle.lgm_payer.specs.declared.unfound.Unfound.TheVariants.{Search, TooDear, Short}
 use Rattle.lgm_payer.specs.Failures.{kind_of, is_far}
 use Rattle.lgm_payer.specs.Reasons.{is_mendable}
 use Rattle.lgm_payer.specs.Payments.{PaymentState, IsShare, fees, left, parts_left}
@@ -90,12 +90,18 @@ route_limits payment =
     if nat_lt (most_blocks payment) (final_blocks payment.invoice) then None
     else Some (record { most_delay = Some (most_blocks payment - final_blocks payment.invoice); most_hops = 20 })
 
--- what a part is searched over: the penalty of an edge for an amount, the odds that a route fails, the edges, and the height
+-- what edges out of the payer carry together, of 64 bits
+abbrev pub room_out : Point → List ExtraEdge → ℕ
+room_out payer extra = min (2 ^ 64 - 1) (sum_by (λ edge. if is_point edge.from payer then edge.max else 0) extra)
+
+-- what a part is searched over: the penalty of an edge for an amount, the odds that a route fails, the edges, the height, and
+-- what the payer's channels can send together
 pub record Prospect : Type 0 where
   pub penalty : PointEdge → ℕ → ℕ
   pub odds : List Hop → ℕ
   pub edges : List PointEdge
   pub height : ℕ
+  pub room : ℕ
 
 -- the penalty by what is believed of edges
 abbrev pub penalty_with : Preferences → (ℕ → Point → Estimate) → PointEdge → ℕ → ℕ
@@ -109,6 +115,7 @@ prospect_of preferences believed known rows payment own since busy height = reco
   odds = route_odds rows (extra_of payment own since busy) (limits_of payment rows busy) believed;
   edges = overlaid_edges known rows (overlay_of payment rows own since busy);
   height = height;
+  room = room_out payment.payer (extra_of payment own since busy);
 }
 
 -- that of a payer that prefers nothing but to send least
@@ -157,6 +164,7 @@ abbrev pub IsReason : Prospect → PaymentState → ℕ → Unfound → Type 0
 IsReason prospect payment amount (Search fault) =
     IsAnswerFor prospect payment amount (Err fault) ⊎ IsAnswerFor (plain prospect) payment amount (Err fault)
 IsReason prospect payment amount (TooDear fee) = IsTooDear prospect payment amount fee
+IsReason prospect payment amount (Short room) = ⊥
 
 -- ---- which part is chosen
 
@@ -211,8 +219,15 @@ pub record IsFirstLikely (prospect : Prospect) (payment : PaymentState) (offer :
   pub amount : offer.amount ≡ piece payment pieces
   pub likely : is_likely offer ≡ true
 
+-- the payer's channels can't send what is left: the edges out of the set of the payer alone have less room
+abbrev pub IsShort : Prospect → PaymentState → Unfound → Type 0
+IsShort prospect payment (Search fault) = ⊥
+IsShort prospect payment (TooDear fee) = ⊥
+IsShort prospect payment (Short room) = (room ≡ prospect.room) × (room < left payment)
+
 -- what a part is sent over: a route for the first amount that has a likely one, or else of all tried the best one
 pub record IsOffered (prospect : Prospect) (payment : PaymentState) (offer : Offer) : Type 0 where
+  pub room : left payment ≤ prospect.room
   pub fit : IsFit prospect payment offer
   pub chosen : IsFirstLikely prospect payment offer ⊎ IsTried prospect payment None (Some offer)
 

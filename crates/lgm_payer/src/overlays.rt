@@ -1,7 +1,9 @@
 //! What a payment knows beside the map.
 
-ghost use Rattle.std.specs.Prelude.{◌≡◌, ◌++◌, map, IfOk, OnOk};
+ghost use Rattle.std.specs.Prelude.{◌≡◌, ◌++◌, map, if◌then◌else◌, IfOk, OnOk};
+ghost use Rattle.lgm_store.specs.Rows.{is_point};
 ghost use Rattle.lgm_graph.specs.Overlay.{extra_edge};
+ghost use Rattle.lgm_payer.specs.Searches.{room_out};
 ghost use Rattle.lgm_payer.specs.Overlays.{listed, spared, limit_of, capacity_limit, capacity_limits, limits_left, all_silenced};
 
 use crate::exclusions::{limit_left, silenced};
@@ -35,6 +37,24 @@ pub(crate) fn add_spared(
         extra.push(spared(edge, busy))?;
     }
     Ok(())
+}
+
+/// What an edge carries, in msat, if it is out of a node.
+fn most_out(payer: &Point, edge: &ExtraEdge) -> u64
+    ensures { result ≡ (if is_point edge.now.from payer.now then edge.now.max else 0) }
+{
+    if edge.from == *payer { edge.max } else { 0 }
+}
+
+/// What edges out of a node carry together, in msat, and 2^64 - 1 at most.
+pub(crate) fn room_out(payer: &Point, extra: &[ExtraEdge]) -> u64
+    ensures { result ≡ room_out payer.now extra.now }
+{
+    let mut room = 0u64;
+    for edge in extra {
+        room = room.saturating_add(most_out(payer, edge));
+    }
+    room
 }
 
 /// A limit of what a hop's edge carries, in msat.

@@ -41,4 +41,6 @@ pub(crate) struct Outlook<'a> {
     pub(crate) preferences: Preferences,
     pub(crate) budget: SearchBudget,
     pub(crate) height: u32,
+    /// What the payer's channels can send together, in msat.
+    pub(crate) room: u64,
 }

@@ -19,6 +19,9 @@ pub enum Unfound {
     /// The cheapest one has this fee, in msat, which is more than the payment's bound leaves.
     #[error("too dear: {0} msat")]
     TooDear(u64),
+    /// The payer's channels can send this much together, in msat, which is less than what is left: no parts can carry it.
+    #[error("the channels can send {0} msat")]
+    Short(u64),
 }
 
 impl Unfound {

@@ -12,7 +12,7 @@ ghost use Rattle.lgm_payer.specs.Looking.{IsUnfound};
 use super::Payment;
 use crate::offer::Offer;
 use crate::overlays::{
-    add_spared, limit_by_capacity, limit_by_failures, overlaid, silence_by_failures,
+    add_spared, limit_by_capacity, limit_by_failures, overlaid, room_out, silence_by_failures,
 };
 use crate::preferring::usual_preferences;
 use crate::sight::{Outlook, Sight};
@@ -92,6 +92,7 @@ impl Payment {
             sight.now.height) self.now) }
     {
         let extra = self.extra(alloc, sight.own, since, busy)?;
+        let room = room_out(&self.payer, &extra);
         let limits = self.limits(alloc, sight.map, busy)?;
         let silent = self.silent(alloc)?;
         let overlay = overlaid(alloc, &extra, &limits, &silent)?;
@@ -105,7 +106,8 @@ impl Payment {
             preferences: self.preferences_for(sight.preferences),
             budget: sight.budget,
             height: sight.height,
+            room,
         };
-        self.offer(alloc, &outlook)
+        self.offer_or_short(alloc, &outlook)
     }
 }

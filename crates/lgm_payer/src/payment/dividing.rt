@@ -4,7 +4,7 @@ ghost use Rattle.std.specs.Prelude.{◌≡◌, ◌≤◌, ◌<◌, ◌+◌, ◌*
 ghost use Rattle.lgm_graph.specs.Graph.{IsGraphOf};
 ghost use Rattle.lgm_payer.specs.Payments.{left, parts_left, IsShare};
 ghost use Rattle.lgm_payer.specs.Searches.{piece, next_pieces, IsFit, IsReason, IsOffered, IsLast};
-ghost use Rattle.lgm_payer.specs.Looking.{prospect_at, best_or};
+ghost use Rattle.lgm_payer.specs.Looking.{prospect_at, best_or, IsUnfound};
 
 use super::Payment;
 use crate::offer::Offer;
@@ -76,10 +76,11 @@ impl Payment {
 
     /// What the next part is sent over: what is left, or else its half, its quarter and so on: the first with a likely route, or
     /// else the one that is expected to bring most.
-    pub(crate) fn offer(&self, alloc: Global, outlook: &Outlook<'_>) -> Result<Offer, Unfound>
+    fn offer(&self, alloc: Global, outlook: &Outlook<'_>) -> Result<Offer, Unfound>
         requires beside { IsGraphOf outlook.now.map.now outlook.now.view.now }
         requires few { length outlook.now.view.now.points + 2 * length outlook.now.overlay.now.extra < 2 ^ 32 }
         requires left { 0 < left self.now }
+        requires room { left self.now ≤ outlook.now.room }
         ensures offered { IfOk result (IsOffered (prospect_at outlook.now) self.now) }
         ensures why { IfErr result (IsLast (prospect_at outlook.now) self.now) }
     {
@@ -113,5 +114,23 @@ impl Payment {
                 }
             }
         }
+    }
+
+    /// The same, unless the payer's channels can't send what is left, in however many parts.
+    pub(crate) fn offer_or_short(
+        &self,
+        alloc: Global,
+        outlook: &Outlook<'_>,
+    ) -> Result<Offer, Unfound>
+        requires beside { IsGraphOf outlook.now.map.now outlook.now.view.now }
+        requires few { length outlook.now.view.now.points + 2 * length outlook.now.overlay.now.extra < 2 ^ 32 }
+        requires left { 0 < left self.now }
+        ensures offered { IfOk result (IsOffered (prospect_at outlook.now) self.now) }
+        ensures why { IfErr result (IsUnfound (prospect_at outlook.now) self.now) }
+    {
+        if outlook.room < self.left() {
+            return Err(Unfound::Short(outlook.room));
+        }
+        self.offer(alloc, outlook)
     }
 }

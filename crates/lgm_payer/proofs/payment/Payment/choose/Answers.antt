@@ -1,7 +1,9 @@
-use Rattle.std.proofs.Common.{◌≡◌, ◌∙◌}
+use Rattle.std.proofs.Common.{◌∙◌, List, ap, sym}
+use Rattle.lgm_graph.specs.declared.overlay.ExtraEdge.{ExtraEdge}
 use Rattle.lgm_graph.specs.Estimates.{estimate_of}
+use Rattle.lgm_payer.specs.Payments.{PaymentState}
 use Rattle.lgm_payer.specs.Preferring.{preferences_for}
-use Rattle.lgm_payer.specs.Searches.{prospect_of}
+use Rattle.lgm_payer.specs.Searches.{prospect_of, room_out}
 use Rattle.lgm_payer.proofs.ProspectLaws.{overlay_is, prospect_is, offered_over, unfound_over}
 use Rattle.lgm_payer.proofs.payment.Payment.choose.Goals as goal
 
@@ -9,26 +11,32 @@ pub returns-clause-offered : goal.returns-clause-offered
 returns-clause-offered c =
     let sight = c.args.sight.now in
     let payment = c.args.self.now in
-    let over = overlay_is payment sight.map.now sight.own.now c.args.since.now c.args.busy.now c.deref.result.now c.deref-2.result.now
-    c.deref-3.result.now c.in_ok-overlay.overlay c.in_ok-overlay.ensures (c.deref.ensures.value ∙ c.in_ok-extra.ensures)
-    (c.deref-2.ensures.value ∙ c.in_ok-limits.ensures) (c.deref-3.ensures.value ∙ c.in_ok-silent.ensures) in
+    let over = overlay_is payment sight.map.now sight.own.now c.args.since.now c.args.busy.now c.deref-2.result.now c.deref-3.result.now
+    c.deref-4.result.now c.in_ok-overlay.overlay c.in_ok-overlay.ensures (c.deref-2.ensures.value ∙ c.in_ok-extra.ensures)
+    (c.deref-3.ensures.value ∙ c.in_ok-limits.ensures) (c.deref-4.ensures.value ∙ c.in_ok-silent.ensures) in
+    let sends = c.room_out-room.ensures ∙ ap (λ (p : PaymentState). room_out p.payer c.deref.result.now) c.self.view_is
+    ∙ ap (λ (list : List ExtraEdge). room_out payment.payer list)
+    (c.deref.ensures.value ∙ sym c.deref-5.ensures.value) in
     let same = prospect_is c.preferences_for.result (preferences_for sight.preferences payment) (estimate_of c.args.estimates.now)
-    sight.view.now.known sight.map.now payment sight.own.now c.args.since.now c.args.busy.now sight.height c.deref-4.result.now
-    c.deref-5.result.now c.in_ok-overlay.overlay c.preferences_for.ensures (c.deref-4.ensures.value ∙ c.in_ok-extra.ensures)
-    (c.deref-5.ensures.value ∙ c.in_ok-limits.ensures) over in
+    sight.view.now.known sight.map.now payment sight.own.now c.args.since.now c.args.busy.now sight.height c.deref-5.result.now
+    c.deref-6.result.now c.in_ok-overlay.overlay c.room_out-room.result c.preferences_for.ensures
+    (c.deref-5.ensures.value ∙ c.in_ok-extra.ensures) (c.deref-6.ensures.value ∙ c.in_ok-limits.ensures) over sends in
     offered_over _ (prospect_of (preferences_for sight.preferences payment) (estimate_of c.args.estimates.now) sight.view.now.known
-    sight.map.now payment sight.own.now c.args.since.now c.args.busy.now sight.height) payment c.offer.result same c.offer.ensures.offered
+    sight.map.now payment sight.own.now c.args.since.now c.args.busy.now sight.height) payment c.offer_or_short.result same c.offer_or_short.ensures.offered
 
 pub returns-clause-why : goal.returns-clause-why
 returns-clause-why c =
     let sight = c.args.sight.now in
     let payment = c.args.self.now in
-    let over = overlay_is payment sight.map.now sight.own.now c.args.since.now c.args.busy.now c.deref.result.now c.deref-2.result.now
-    c.deref-3.result.now c.in_ok-overlay.overlay c.in_ok-overlay.ensures (c.deref.ensures.value ∙ c.in_ok-extra.ensures)
-    (c.deref-2.ensures.value ∙ c.in_ok-limits.ensures) (c.deref-3.ensures.value ∙ c.in_ok-silent.ensures) in
+    let over = overlay_is payment sight.map.now sight.own.now c.args.since.now c.args.busy.now c.deref-2.result.now c.deref-3.result.now
+    c.deref-4.result.now c.in_ok-overlay.overlay c.in_ok-overlay.ensures (c.deref-2.ensures.value ∙ c.in_ok-extra.ensures)
+    (c.deref-3.ensures.value ∙ c.in_ok-limits.ensures) (c.deref-4.ensures.value ∙ c.in_ok-silent.ensures) in
+    let sends = c.room_out-room.ensures ∙ ap (λ (p : PaymentState). room_out p.payer c.deref.result.now) c.self.view_is
+    ∙ ap (λ (list : List ExtraEdge). room_out payment.payer list)
+    (c.deref.ensures.value ∙ sym c.deref-5.ensures.value) in
     let same = prospect_is c.preferences_for.result (preferences_for sight.preferences payment) (estimate_of c.args.estimates.now)
-    sight.view.now.known sight.map.now payment sight.own.now c.args.since.now c.args.busy.now sight.height c.deref-4.result.now
-    c.deref-5.result.now c.in_ok-overlay.overlay c.preferences_for.ensures (c.deref-4.ensures.value ∙ c.in_ok-extra.ensures)
-    (c.deref-5.ensures.value ∙ c.in_ok-limits.ensures) over in
+    sight.view.now.known sight.map.now payment sight.own.now c.args.since.now c.args.busy.now sight.height c.deref-5.result.now
+    c.deref-6.result.now c.in_ok-overlay.overlay c.room_out-room.result c.preferences_for.ensures
+    (c.deref-5.ensures.value ∙ c.in_ok-extra.ensures) (c.deref-6.ensures.value ∙ c.in_ok-limits.ensures) over sends in
     unfound_over _ (prospect_of (preferences_for sight.preferences payment) (estimate_of c.args.estimates.now) sight.view.now.known
-    sight.map.now payment sight.own.now c.args.since.now c.args.busy.now sight.height) payment c.offer.result same c.offer.ensures.why
+    sight.map.now payment sight.own.now c.args.since.now c.args.busy.now sight.height) payment c.offer_or_short.result same c.offer_or_short.ensures.why
