@@ -1,6 +1,6 @@
 -- Laws of how what is believed fades.
-use Rattle.std.proofs.Common.{◌≡◌, ◌∙◌, ℕ, ◌+◌, ◌-◌, ◌*◌, ◌/◌, ◌^◌, ◌<◌, ◌≤◌, Bool, true, false, ◌&&◌, ◌||◌, List, [], ◌∷◌, refl, sym, ap, subst, arith, length, take, get_or, Option, Some, None, unwrap_or, true≢false}
-use Rattle.std.specs.Prelude.{◌==◌, slice_get, min, max, IfSome, nat_le, if◌then◌else◌}
+use Rattle.std.proofs.Common.{◌≡◌, ◌∙◌, ℕ, ◌+◌, ◌-◌, ◌*◌, ◌/◌, ◌^◌, ◌<◌, ◌≤◌, Bool, true, false, ◌&&◌, ◌||◌, [], ◌∷◌, refl, sym, ap, subst, arith, length, take, get_or, Option, Some, None, unwrap_or, true≢false}
+use Rattle.std.specs.Prelude.{◌==◌, slice_get, min, IfSome, nat_le, if◌then◌else◌}
 use Rattle.std.specs.List.{list_any}
 use Rattle.std.specs.Option.{option_map, option_and_then}
 use Rattle.std.proofs.Math.Nat.{zero-mul, zero-div}
@@ -10,13 +10,13 @@ use Rattle.std.proofs.lemmas.List.Folds.{list_any_more}
 use Rattle.std.proofs.lemmas.Option.{slice_get-get_or}
 use Rattle.lgm_wire.specs.declared.point.Point.{Point}
 use Rattle.lgm_check.specs.declared.row.ChannelRow.{ChannelRow}
-use Rattle.lgm_store.specs.Rows.{Rows, is_point, channel_of}
+use Rattle.lgm_store.specs.Rows.{Rows, channel_of}
 use Rattle.lgm_store.proofs.Points.{same_point, is_point-self}
 use Rattle.lgm_graph.specs.declared.estimate.Estimate.{Estimate}
 use Rattle.lgm_graph.specs.declared.estimate.EdgeKey.{EdgeKey}
-use Rattle.lgm_graph.specs.Estimates.{Entries, is_key, key_of, known_of, estimate_of, no_estimate, IsEstimated}
+use Rattle.lgm_graph.specs.Estimates.{Entries, is_key, key_of, known_of, estimate_of, no_estimate}
 use Rattle.lgm_odds.specs.declared.fading.Elapsed.{Elapsed}
-use Rattle.lgm_odds.specs.Fading.{kept, faded, says_little, kept_of, capacity_of, faded_in, faded_at, IsLaid, IsFadedAt, AreFaded}
+use Rattle.lgm_odds.specs.Fading.{kept, faded, says_little, kept_of, faded_in, faded_at, IsLaid, IsFadedAt, AreFaded}
 
 -- one of the entries is of the edge
 abbrev pub has_entry : Entries → ℕ → Point → Bool

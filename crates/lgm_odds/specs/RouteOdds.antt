@@ -7,7 +7,6 @@ use Rattle.lgm_graph.specs.declared.estimate.Estimate.{Estimate}
 use Rattle.lgm_graph.specs.declared.overlay.ExtraEdge.{ExtraEdge}
 use Rattle.lgm_graph.specs.declared.overlay.Limit.{Limit}
 use Rattle.lgm_graph.specs.declared.route.Hop.{Hop}
-use Rattle.lgm_graph.specs.Estimates.{Entries, estimate_of}
 use Rattle.lgm_graph.specs.Overlay.{most_of}
 use Rattle.lgm_route.specs.Odds.{odds}
 

@@ -1,5 +1,5 @@
 -- Laws of what was tried, and of what is chosen.
-use Rattle.std.proofs.Common.{◌≡◌, ◌≤◌, ℕ, Bool, true, false, Option, Some, None, Result, Ok, Err, refl, subst, sym, inr, true≢false, ◌∙◌, if◌then◌else◌}
+use Rattle.std.proofs.Common.{◌≡◌, ◌≤◌, ℕ, Bool, true, false, Option, Some, None, refl, subst, sym, inr, true≢false, ◌∙◌, if◌then◌else◌}
 use Rattle.std.specs.Prelude.{IfSome, IfOk, IfErr}
 use Rattle.lgm_payer.specs.declared.offer.Offer.{Offer}
 use Rattle.lgm_payer.specs.declared.unfound.Unfound.{Unfound}

@@ -4,3 +4,4 @@ pub mod RoomLaws
 pub mod PayerLaws
 pub mod ChoiceLaws
 pub mod HistoryLaws
+pub mod PieceLaws

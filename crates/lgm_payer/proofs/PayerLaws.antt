@@ -1,6 +1,6 @@
 -- What a call about one payment makes of its payer.
-use Rattle.std.proofs.Common.{◌≡◌, ◌∙◌, ℕ, ◌+◌, Bool, List, Option, Result, Ok, Err, refl, sym, ap, subst, inl, inr}
-use Rattle.std.specs.Prelude.{slice_set, IfErr}
+use Rattle.std.proofs.Common.{◌≡◌, ◌∙◌, ℕ, ◌+◌, Bool, List, Option, Some, Result, Ok, Err, refl, sym, ap, subst, inl, inr}
+use Rattle.std.specs.Prelude.{slice_get, slice_set, IfErr, IfSome}
 use Rattle.lgm_wire.specs.declared.point.Point.{Point}
 use Rattle.lgm_wire.specs.reading.Reading.{Gives}
 use Rattle.lgm_graph.specs.Estimates.{Entries}
@@ -15,13 +15,15 @@ use Rattle.lgm_payer.specs.declared.unpaid.Unpaid.{Unpaid}
 use Rattle.lgm_payer.specs.declared.unfound.Unfound.TheVariants as unfound
 use Rattle.lgm_payer.specs.declared.unpaid.Unpaid.TheVariants as unpaid
 use Rattle.lgm_payload.specs.Building.{built_for}
-use Rattle.lgm_odds.specs.Lessons.{believed}
+use Rattle.lgm_odds.specs.Lessons.{AreTaught, believed}
 use Rattle.lgm_odds.specs.RouteOdds.{route_odds}
+use Rattle.lgm_payer.specs.declared.failure.Ending.{Ending}
 use Rattle.lgm_payer.specs.declared.offer.Offer.{Offer}
 use Rattle.lgm_payer.specs.Parts.{part_of}
 use Rattle.lgm_payer.specs.Payments.{PaymentState, with_sent}
 use Rattle.lgm_payer.specs.UnderWay.{all_under_way, all_since}
 use Rattle.lgm_payer.specs.Overlays.{extra_of, limits_of}
+use Rattle.lgm_payer.specs.Learning.{learnt_at}
 use Rattle.lgm_payer.specs.Preferring.{preferences_for}
 use Rattle.lgm_payer.specs.Searches.{IsOffered, penalty_with, room_out}
 use Rattle.lgm_payer.specs.Payers.{PayerState, Seen, IsPayment, IsSentIn, IsUnpaidIn, prospect_in}
@@ -108,3 +110,13 @@ new_payer point payments learnt begun sent settled place next after old is more 
       settled = settled;
     } in new) more
     ∙ ap (λ (p : PayerState). let new : PayerState = record p { payments = slice_set p.payments place after; sent = p.sent + 1 } in new) is
+
+-- what a part's failure teaches beside all that is under way
+pub taught_beside : (payer : PayerState) (place at : ℕ) (ending : Ending) (before : PaymentState) (busy : List Hop) (copied new : Entries)
+    → slice_get payer.payments place ≡ Some before → busy ≡ all_under_way payer.payments → copied ≡ payer.learnt
+    → AreTaught (learnt_at before busy at ending) copied new
+    → IfSome (slice_get payer.payments place) (λ payment.
+    AreTaught (learnt_at payment (all_under_way payer.payments) at ending) payer.learnt new)
+taught_beside payer place at ending before busy copied new there all same taught =
+    rw there (subst (λ (hops : List Hop). AreTaught (learnt_at before hops at ending) payer.learnt new) all
+    (subst (λ (old : Entries). AreTaught (learnt_at before busy at ending) old new) same taught))

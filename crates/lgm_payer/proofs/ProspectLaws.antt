@@ -1,14 +1,16 @@
 -- Laws of what a part is searched over.
-use Rattle.std.proofs.Common.{◌≡◌, ◌∙◌, ℕ, ◌<◌, List, length, get_or, Option, Some, Result, Ok, Err, refl, sym, ap, subst}
-use Rattle.std.specs.Prelude.{map, slice_get, IfOk, IfErr, IfSome}
+use Rattle.std.proofs.Common.{◌≡◌, ◌∙◌, ℕ, ◌+◌, ◌*◌, ◌^◌, ◌<◌, Bool, true, false, None, arith, if◌then◌else◌, List, length-append, length, get_or, Option, Some, Result, Ok, Err, refl, sym, ap, subst}
+use Rattle.std.specs.Prelude.{map, slice_get, nat_le, IfOk, IfErr, IfSome}
 use Rattle.std.proofs.lemmas.Option.{slice_get-get_or}
+use Rattle.std.proofs.lemmas.List.{length-map}
 use Rattle.lgm_wire.specs.declared.point.Point.{Point}
 use Rattle.lgm_store.specs.Rows.{Rows}
 use Rattle.lgm_graph.specs.declared.estimate.Estimate.{Estimate}
 use Rattle.lgm_graph.specs.declared.overlay.ExtraEdge.{ExtraEdge}
 use Rattle.lgm_graph.specs.declared.overlay.Limit.{Limit}
 use Rattle.lgm_graph.specs.declared.route.Hop.{Hop}
-use Rattle.std.specs.Option.{unwrap_or}
+use Rattle.std.specs.Option.{unwrap_or, option_or}
+use Rattle.std.proofs.lemmas.Bool.Decides.{nat_tests}
 use Rattle.lgm_graph.specs.Estimates.{Entries, estimate_of}
 use Rattle.lgm_graph.specs.Overlay.{OverlayParts, extra_edge, overlaid_edges}
 use Rattle.lgm_route.specs.declared.preferences.Preferences.{Preferences}
@@ -16,12 +18,14 @@ use Rattle.lgm_odds.specs.RouteOdds.{route_odds}
 use Rattle.lgm_odds.specs.Lessons.{believed}
 use Rattle.lgm_payer.specs.declared.offer.Offer.{Offer}
 use Rattle.lgm_payer.specs.declared.unfound.Unfound.{Unfound}
+use Rattle.lgm_payer.specs.declared.unpaid.Unpaid.{Unpaid}
+use Rattle.lgm_payer.specs.declared.unpaid.Unpaid.TheVariants.{TooManyPoints}
 use Rattle.lgm_payer.specs.Payments.{PaymentState}
 use Rattle.lgm_payer.specs.UnderWay.{all_under_way, all_since}
-use Rattle.lgm_payer.specs.Overlays.{extra_of, limits_of, silent_of, overlay_of}
+use Rattle.lgm_payer.specs.Overlays.{spared, extra_of, limits_of, silent_of, overlay_of}
 use Rattle.lgm_payer.specs.Preferring.{preferences_for}
 use Rattle.lgm_payer.specs.Searches.{Prospect, penalty_with, prospect_of, room_out, IsOffered}
-use Rattle.lgm_payer.specs.Payers.{PayerState, Seen, prospect_in}
+use Rattle.lgm_payer.specs.Payers.{PayerState, Seen, prospect_in, points_fault, sight_fault}
 use Rattle.lgm_payer.specs.Looking.{IsUnfound}
 
 -- ---- as it is made
@@ -47,6 +51,16 @@ overlay_is payment rows own since busy extra limits silent overlay is edges most
     record { extra = map extra_edge (extra_of payment own since busy); limits = list; silent = silent } in parts) most
     ∙ ap (λ (list : List Point). let parts : OverlayParts =
     record { extra = map extra_edge (extra_of payment own since busy); limits = limits_of payment rows busy; silent = list } in parts) nodes
+
+-- it has as many edges beside the map as were told and hinted
+pub extra_count : (payment : PaymentState) (rows : Rows) (own : List ExtraEdge) (since busy : List Hop) (overlay : OverlayParts)
+    → overlay ≡ overlay_of payment rows own since busy → length overlay.extra ≡ length own + length payment.hints
+extra_count payment rows own since busy overlay over =
+    ap (λ (parts : OverlayParts). length parts.extra) over
+    ∙ length-map (extra_of payment own since busy) extra_edge
+    ∙ length-append (map (spared since) own) (map (spared busy) payment.hints)
+    ∙ ap (λ n. n + length (map (spared busy) payment.hints)) (length-map own (spared since))
+    ∙ ap (λ n. length own + n) (length-map payment.hints (spared busy))
 
 -- a prospect that is made of it
 pub prospect_is : (preferences chosen : Preferences) (beliefs : ℕ → Point → Estimate) (known : Option (List ℕ)) (rows : Rows)
@@ -125,3 +139,23 @@ module _ (seen : Seen) (payer : PayerState) (place : ℕ) (before : PaymentState
   unfound_beside (Ok offer) why = why
   unfound_beside (Err reason) why =
       rw there (subst (λ (p : Prospect). IsUnfound p before reason) beside why)
+
+-- ---- what is seen well
+
+or_none : (first second : Option Unpaid) → option_or first second ≡ None → second ≡ None
+or_none None second none = none
+or_none (Some fault) second none = cc
+
+few_points : (points extra : ℕ) → points_fault points extra ≡ None → points + 2 * extra < 2 ^ 32
+few_points points extra none = by (nat_le (2 ^ 32) (points + 2 * extra)) refl none
+  where
+    by : (b : Bool) → nat_le (2 ^ 32) (points + 2 * extra) ≡ b → (if b then Some TooManyPoints else None) ≡ None
+        → points + 2 * extra < 2 ^ 32
+    by true is none = cc
+    by false is none = grind (arith, nat_tests)
+
+-- it has few points
+pub few_seen : (seen : Seen) (payer : PayerState) (payment : PaymentState) → sight_fault seen payer payment ≡ None
+    → seen.points + 2 * (length seen.own + length payment.hints) < 2 ^ 32
+few_seen seen payer payment none =
+    few_points seen.points (length seen.own + length payment.hints) (or_none _ _ none)

@@ -1,5 +1,5 @@
 -- Laws of the routes that are answers for parts.
-use Rattle.std.proofs.Common.{◌≡◌, ℕ, ◌+◌, ◌-◌, ◌≤◌, List, [], ◌∷◌, Option, Some, None, Ok, refl, sym, subst, arith, length, inl, inr}
+use Rattle.std.proofs.Common.{◌≡◌, ℕ, ◌+◌, ◌-◌, ◌<◌, ◌≤◌, List, [], ◌∷◌, Option, Some, None, Ok, refl, sym, ap, subst, arith, length, inl, inr}
 use Rattle.std.specs.Prelude.{fold, nat_lt, Bool, true, false, if◌then◌else◌}
 use Rattle.std.proofs.lemmas.Bool.Decides.{nat_tests}
 use Rattle.lgm_graph.specs.Edges.{PointEdge}
@@ -13,7 +13,7 @@ use Rattle.lgm_route.specs.Routes.{owed, due, hops_of}
 use Rattle.lgm_route.specs.Preferred.{IsSomeRoute, delay}
 use Rattle.lgm_payer.specs.declared.part.Part.{Part}
 use Rattle.lgm_payer.specs.Payments.{PaymentState, fees}
-use Rattle.lgm_payer.specs.Searches.{Prospect, IsAnswerWithin, IsAnswerFor, IsFoundFor, request_of, route_limits, most_blocks, or_fewer, final_blocks, plain}
+use Rattle.lgm_payer.specs.Searches.{Prospect, IsAnswerWithin, IsAnswerFor, IsFoundFor, IsTooDear, request_of, route_limits, most_blocks, or_fewer, final_blocks, plain}
 
 -- what has to reach the first node is no less than what arrives
 pub owed_more : (amount : ℕ) (rest : List PointEdge) → amount ≤ owed amount rest
@@ -102,3 +102,43 @@ pub found_falls : (prospect : Prospect) (payment : PaymentState) (amount : ℕ) 
     → IsFoundFor prospect payment amount found → expiry found.route ≤ prospect.height + payment.bounds.most_blocks
 found_falls prospect payment amount found (inl route) = answer_falls prospect payment amount found route.answer
 found_falls prospect payment amount found (inr route) = answer_falls (plain prospect) payment amount found route.route.answer
+
+-- ---- which answer is taken
+
+-- what isn't within a bound is beyond it
+beyond_of : (fee most : ℕ) → (fee ≤ most → ⊥) → most < fee
+beyond_of fee most not_within = by (nat_lt most fee) refl
+  where
+    by : (b : Bool) → nat_lt most fee ≡ b → most < fee
+    by true is = grind (arith, nat_tests)
+    by false is = let within : fee ≤ most = grind (arith, nat_tests) in absurd (not_within within)
+
+-- the one that is preferred, or else the cheapest one, or that this is too dear
+pub preferred_found : (prospect : Prospect) (payment : PaymentState) (amount : ℕ) (found : Found)
+    → IsAnswerFor prospect payment amount (Ok found) → sent found.route - amount + fees payment ≤ payment.bounds.most_fee
+    → IsFoundFor prospect payment amount found
+preferred_found prospect payment amount found answer within = inl (record { answer = answer; fee = within })
+
+pub cheapest_found : (prospect : Prospect) (payment : PaymentState) (amount : ℕ) (dear found : Found)
+    → IsAnswerFor prospect payment amount (Ok dear)
+    → (sent dear.route - amount + fees payment ≤ payment.bounds.most_fee → ⊥)
+    → IsAnswerFor (plain prospect) payment amount (Ok found)
+    → sent found.route - amount + fees payment ≤ payment.bounds.most_fee → IsFoundFor prospect payment amount found
+cheapest_found prospect payment amount dear found preferred not_within answer within =
+    inr (record {
+      dear = dear;
+      preferred = preferred;
+      beyond = beyond_of _ _ not_within;
+      route = record { answer = answer; fee = within };
+    })
+
+pub too_dear : (prospect : Prospect) (payment : PaymentState) (amount given : ℕ) (found : Found)
+    → IsAnswerFor (plain prospect) payment amount (Ok found) → given ≡ sent found.route
+    → (sent found.route - amount + fees payment ≤ payment.bounds.most_fee → ⊥)
+    → IsTooDear prospect payment amount (given - amount)
+too_dear prospect payment amount given found answer is not_within = record {
+  found = found;
+  answer = answer;
+  fee_is = ap (λ n. n - amount) is;
+  beyond = rw is (beyond_of _ _ not_within);
+}

@@ -1,10 +1,9 @@
 -- What becomes of parts and payments.
-use Rattle.std.specs.Prelude.{◌≡◌, ◌⊎◌, ℕ, Bool, true, false, not, ◌==◌, nat_lt, List, length, Option, Some, None, Result, Ok, Err, slice_get, slice_set, if◌then◌else◌}
+use Rattle.std.specs.Prelude.{◌≡◌, ◌⊎◌, ℕ, Bool, ◌==◌, nat_lt, List, length, Option, Some, None, Result, Ok, Err, slice_get, slice_set, if◌then◌else◌}
 use Rattle.std.specs.Prelude.{remove}
 use Rattle.std.specs.List.{list_any}
 use Rattle.std.specs.Option.{option_map_or}
 use Rattle.lgm_graph.specs.declared.route.Hop.{Hop}
-use Rattle.lgm_graph.specs.Estimates.{Entries}
 use Rattle.lgm_store.specs.Rows.{Rows}
 use Rattle.lgm_odds.specs.declared.fading.Elapsed.{Elapsed}
 use Rattle.lgm_odds.specs.Lessons.{AreTaught}

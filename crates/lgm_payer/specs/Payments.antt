@@ -1,5 +1,5 @@
 -- A payment: what is left of it, and what the events make of it.
-use Rattle.std.specs.Prelude.{◌≡◌, ℕ, ◌+◌, ◌-◌, ◌<◌, ◌≤◌, max, List, [], ◌∷◌, ◌++◌, All, length, sum_by, count_by, filter}
+use Rattle.std.specs.Prelude.{◌≡◌, ℕ, ◌+◌, ◌-◌, ◌<◌, ◌≤◌, min, max, List, [], ◌∷◌, ◌++◌, All, length, sum_by, count_by, filter}
 use Rattle.std.specs.Prelude.{Bool, true, false, not, ◌==◌, Option, Some, slice_get, slice_set, if◌then◌else◌}
 use Rattle.std.specs.List.{position}
 use Rattle.lgm_wire.specs.declared.point.Point.{Point}
@@ -72,10 +72,17 @@ most_at_once invoice bounds = if invoice.basic_mpp then max 1 bounds.most_parts 
 abbrev pub parts_left : PaymentState → ℕ
 parts_left payment = most_at_once payment.invoice payment.bounds - count_by is_held payment.parts
 
--- an amount of a next part: something of what is left, and all of it where only one part may carry it
+-- what a part has to be: the least part, or the whole amount if that is less
+abbrev pub least_amount : Invoice → Bounds → ℕ
+least_amount invoice bounds = min bounds.least_part invoice.amount
+
+-- an amount of a next part: something of what is left, which is enough for a part and leaves nothing or enough for another
+-- one; and all of it where only one part may carry it
 pub record IsShare (payment : PaymentState) (amount : ℕ) : Type 0 where
   pub some : 1 ≤ amount
   pub within : amount ≤ left payment
+  pub enough : least_amount payment.invoice payment.bounds ≤ amount
+  pub leaves : amount < left payment → amount + least_amount payment.invoice payment.bounds ≤ left payment
   pub last : parts_left payment ≤ 1 → amount ≡ left payment
 
 -- ---- the events
@@ -97,7 +104,8 @@ pub record IsEnded (place : ℕ) (ending : Ending) (old new : PaymentState) : Ty
 
 -- ---- what always holds
 
--- the bounds are kept, and while something is left a part may be sent
+-- the bounds are kept, no part is below the least one, and while something is left it is enough for a part, and one may be
+-- sent
 pub record KeepsBounds (invoice : Invoice) (bounds : Bounds) (parts : List Part) : Type 0 where
   pub amount : sum_by held_amount parts ≤ invoice.amount
   pub fee : sum_by held_fee parts ≤ bounds.most_fee
@@ -105,4 +113,6 @@ pub record KeepsBounds (invoice : Invoice) (bounds : Bounds) (parts : List Part)
   pub tries : length parts ≤ bounds.most_tries
   pub in_time : All (λ part. part.blocks ≤ bounds.most_blocks) parts
   pub sends : All (λ part. sent part.route ≡ part.amount + part.fee) parts
+  pub enough : All (λ part. least_amount invoice bounds ≤ part.amount) parts
+  pub leaves : sum_by held_amount parts < invoice.amount → sum_by held_amount parts + least_amount invoice bounds ≤ invoice.amount
   pub spare : sum_by held_amount parts < invoice.amount → count_by is_held parts < most_at_once invoice bounds

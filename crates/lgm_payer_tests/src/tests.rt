@@ -1,4 +1,4 @@
 mod events;
 mod made;
 mod parts;
-mod refusals;
+mod script;

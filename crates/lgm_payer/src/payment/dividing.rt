@@ -1,6 +1,6 @@
 //! How what is left of a payment is divided.
 
-ghost use Rattle.std.specs.Prelude.{◌≡◌, ◌≤◌, ◌<◌, ◌+◌, ◌*◌, ◌^◌, length, IfOk, IfErr, IfSome};
+ghost use Rattle.std.specs.Prelude.{◌≡◌, ◌≤◌, ◌<◌, ◌+◌, ◌*◌, ◌/◌, ◌^◌, max, length, IfOk, IfErr, IfSome};
 ghost use Rattle.lgm_graph.specs.Graph.{IsGraphOf};
 ghost use Rattle.lgm_payer.specs.Payments.{left, parts_left, IsShare};
 ghost use Rattle.lgm_payer.specs.Searches.{piece, next_pieces, IsFit, IsReason, IsOffered, IsLast};
@@ -19,9 +19,12 @@ impl Payment {
         requires some { 1 ≤ pieces }
         requires left { 0 < left self.now }
         requires few { 2 ≤ pieces → pieces ≤ parts_left self.now }
+        requires enough { 2 ≤ pieces → pieces ≤ left self.now / max 1 self.now.bounds.least_part }
         ensures exact { result ≡ piece self.now pieces }
         ensures share { IsShare self.now result }
     {
+        // By its contract what is left is enough for a part.
+        self.keeps_bounds();
         self.left().div_ceil(pieces)
     }
 
@@ -31,6 +34,7 @@ impl Payment {
         ensures exact { result ≡ next_pieces self.now pieces }
         ensures more { IfSome result (λ next. pieces < next) }
         ensures few { IfSome result (λ next. next ≤ parts_left self.now) }
+        ensures enough { IfSome result (λ next. next ≤ left self.now / max 1 self.now.bounds.least_part) }
     {
         let most = (self.parts_left() as u64).min(self.left() / self.bounds.least_part.max(1));
         let next = pieces.checked_mul(2)?;

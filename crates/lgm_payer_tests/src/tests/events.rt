@@ -1,14 +1,14 @@
 //! What payers are told, and refuse.
 
-use super::made::{BOUNDS, failure, invoice, next, payer, state, two_ways};
-use lgm_payer::{Bounds, PayerFault, Stage, Unpaid};
-use lgm_test_gossip::map_of;
+use super::made::{BOUNDS, invoice, payer_without};
+use super::script::{Step, run_two_ways};
+use lgm_payer::{Bounds, PayerFault, Unfound, Unpaid};
 use std::test::Fail;
 
 #[test]
 fn payments_that_cannot_begin(rt: HostRuntime) -> Result<(), Fail> {
     let alloc = rt.alloc();
-    let mut payer = payer(alloc, BOUNDS)?;
+    let mut payer = payer_without(alloc)?;
     let records = Vec::new(alloc);
     assert_eq!(rt;
         payer.begin(alloc, invoice(0), &[], None, records, BOUNDS),
@@ -18,79 +18,87 @@ fn payments_that_cannot_begin(rt: HostRuntime) -> Result<(), Fail> {
         most_parts: 0,
         ..BOUNDS
     };
-    let records = Vec::new(alloc);
-    assert_eq!(rt;
-        payer.begin(alloc, invoice(1), &[], None, records, none),
-        Err(PayerFault::NoParts)
-    );
-    Ok(())
+    run_two_ways(
+        &rt,
+        alloc,
+        BOUNDS,
+        &[
+            Step::Begin(none, Err(PayerFault::NoParts)),
+            Step::Begin(BOUNDS, Ok(1)),
+        ],
+    )
 }
 
-/// The route has three hops: node 9, the payer's, to 0, 1 and 3.
+/// The route has three hops: node 9, the payer's, to 0, 1 and 3. Node 2 can't send `incorrect_or_unknown_payment_details`, nor the
+/// payee `temporary_channel_failure`.
 #[test]
 fn failures_that_are_refused(rt: HostRuntime) -> Result<(), Fail> {
-    let alloc = rt.alloc();
-    let map = map_of(alloc, &two_ways())?;
-    let mut payer = payer(alloc, BOUNDS)?;
-    assert_eq!(rt; payer.fulfilled(0), Err(PayerFault::NothingUnderWay));
-    assert_eq!(rt; next(&rt, alloc, &mut payer, 0, &map, 2_000), Ok(Some(0)));
-    let refused = [
-        (failure(4, 0x400f), PayerFault::BeyondRoute),
-        // incorrect_or_unknown_payment_details of a node that forwards
-        (failure(2, 0x400f), PayerFault::ForeignCode),
-        // temporary_channel_failure of the payee
-        (failure(3, 0x1007), PayerFault::ForeignCode),
+    let steps = [
+        Step::Fulfilled(0, Err(PayerFault::NothingUnderWay)),
+        Step::Next(0, 2_000, 0, Ok(Some(0))),
+        Step::Failed(0, 0, 4, 0x400f, Err(PayerFault::BeyondRoute)),
+        Step::Failed(0, 0, 2, 0x400f, Err(PayerFault::ForeignCode)),
+        Step::Failed(0, 0, 3, 0x1007, Err(PayerFault::ForeignCode)),
+        Step::Failed(0, 1, 2, 0x1007, Err(PayerFault::UnknownPart)),
+        Step::Unreadable(1, 0, Err(PayerFault::UnknownPayment)),
+        Step::Forget(0, Err(PayerFault::UnderWay)),
+        Step::State(false, 0, 13),
+        Step::Failed(0, 0, 2, 0x1007, Ok(())),
+        Step::Unreadable(0, 0, Err(PayerFault::NotUnderWay)),
     ];
-    for (failure, fault) in refused {
-        assert_eq!(rt; payer.failed(alloc, 0, 0, failure), Err(fault));
-    }
-    assert_eq!(rt;
-        payer.failed(alloc, 0, 1, failure(2, 0x1007)),
-        Err(PayerFault::UnknownPart)
-    );
-    assert_eq!(rt;
-        payer.unreadable(alloc, 1, 0),
-        Err(PayerFault::UnknownPayment)
-    );
-    assert_eq!(rt; payer.forget(0), Err(PayerFault::UnderWay));
-    assert_eq!(rt; state(&rt, &payer, 0), (false, 0, 13));
-    payer.failed(alloc, 0, 0, failure(2, 0x1007))?;
-    assert_eq!(rt; payer.unreadable(alloc, 0, 0), Err(PayerFault::NotUnderWay));
-    Ok(())
+    run_two_ways(&rt, rt.alloc(), BOUNDS, &steps)
 }
 
 /// What is under way is waited for: here the payee takes it.
 #[test]
 fn an_abandoned_payment(rt: HostRuntime) -> Result<(), Fail> {
-    let alloc = rt.alloc();
-    let map = map_of(alloc, &two_ways())?;
-    let mut payer = payer(alloc, BOUNDS)?;
-    assert_eq!(rt; next(&rt, alloc, &mut payer, 0, &map, 2_000), Ok(Some(0)));
-    payer.failed(alloc, 0, 0, failure(2, 0x1007))?;
-    assert_eq!(rt; next(&rt, alloc, &mut payer, 0, &map, 2_000), Ok(Some(1)));
-    payer.abandon(0)?;
-    assert_eq!(rt; state(&rt, &payer, 0), (false, 0, 53));
-    payer.fulfilled(0)?;
-    assert_eq!(rt; state(&rt, &payer, 0), (true, 0, 53));
-    assert_eq!(rt; payer.fulfilled(0), Err(PayerFault::AlreadyPaid));
-    assert_eq!(rt; payer.abandon(0), Err(PayerFault::AlreadyPaid));
-    payer.forget(0)?;
-    assert_eq!(rt; payer.payments().len(), 0);
-    assert_eq!(rt; payer.forget(0), Err(PayerFault::UnknownPayment));
-    Ok(())
+    let steps = [
+        Step::Next(0, 2_000, 0, Ok(Some(0))),
+        Step::Failed(0, 0, 2, 0x1007, Ok(())),
+        Step::Next(0, 2_000, 0, Ok(Some(1))),
+        Step::Part(0, 1_000, 13, 2),
+        Step::Part(1, 1_000, 53, 4),
+        Step::Abandon(0, Ok(())),
+        Step::State(false, 0, 53),
+        Step::Fulfilled(0, Ok(())),
+        Step::State(true, 0, 53),
+        Step::Fulfilled(0, Err(PayerFault::AlreadyPaid)),
+        Step::Abandon(0, Err(PayerFault::AlreadyPaid)),
+        Step::Forget(0, Ok(())),
+        Step::Forget(0, Err(PayerFault::UnknownPayment)),
+        Step::Begin(BOUNDS, Ok(1)),
+        Step::Abandon(1, Ok(())),
+        Step::Next(1, 2_000, 2, Err(Unpaid::Abandoned)),
+    ];
+    run_two_ways(&rt, rt.alloc(), BOUNDS, &steps)
 }
 
 #[test]
-fn nothing_more_is_sent(rt: HostRuntime) -> Result<(), Fail> {
+fn why_nothing_is_sent(rt: HostRuntime) -> Result<(), Fail> {
     let alloc = rt.alloc();
-    let map = map_of(alloc, &two_ways())?;
-    let mut payer = payer(alloc, BOUNDS)?;
-    payer.abandon(0)?;
-    assert_eq!(rt;
-        next(&rt, alloc, &mut payer, 0, &map, 2_000),
-        Err(Unpaid::Abandoned)
-    );
-    assert_eq!(rt; payer.payments().len(), 1);
-    assert_eq!(rt; payer.payments()[0].stage(), Stage::Abandoned);
-    Ok(())
+    let cheap = Bounds {
+        most_fee: 12,
+        least_part: 600,
+        ..BOUNDS
+    };
+    let dear = Err(Unpaid::Unfound(Unfound::TooDear(13)));
+    run_two_ways(&rt, alloc, cheap, &[Step::Next(0, 2_000, 0, dear)])?;
+    let refused = [
+        Step::Next(0, 2_000, 0, Ok(Some(0))),
+        Step::Failed(0, 0, 3, 0x400f, Ok(())),
+        Step::Next(0, 2_000, 0, Err(Unpaid::PayeeRefused(0x400f))),
+        Step::Next(1, 2_000, 0, Err(Unpaid::UnknownPayment)),
+        Step::Next(0, 2_000, 2, Err(Unpaid::ReckonedAhead)),
+    ];
+    run_two_ways(&rt, alloc, BOUNDS, &refused)?;
+    let once = Bounds {
+        most_tries: 1,
+        ..BOUNDS
+    };
+    let tried = [
+        Step::Next(0, 2_000, 0, Ok(Some(0))),
+        Step::Failed(0, 0, 2, 0x1007, Ok(())),
+        Step::Next(0, 2_000, 0, Err(Unpaid::TriesUsedUp)),
+    ];
+    run_two_ways(&rt, alloc, once, &tried)
 }

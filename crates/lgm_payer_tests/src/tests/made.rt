@@ -2,7 +2,7 @@
 
 use lgm_gossip::Scid;
 use lgm_graph::{Estimates, ExtraEdge, Known, View};
-use lgm_payer::{Bounds, Failure, Invoice, Payer, PayerFault, Sending, Sight, Unpaid};
+use lgm_payer::{Bounds, Invoice, Payer, PayerFault, Sending, Sight, Unpaid};
 use lgm_route::{Preferences, SearchBudget};
 use lgm_store::Map;
 use lgm_test_gossip::{Item, charging, point};
@@ -63,13 +63,18 @@ pub fn begin(alloc: Global, payer: &mut Payer, bounds: Bounds) -> Result<u64, Pa
     payer.begin(alloc, invoice(1_000), &[], None, records, bounds)
 }
 
+/// Node 9, which has begun no payment.
+pub fn payer_without(alloc: Global) -> Result<Box<Payer>, PayerFault> {
+    let made = Payer::new(alloc, point(9), Estimates::new(alloc));
+    match Box::new(alloc, made) {
+        Ok(payer) => Ok(payer),
+        Err(e) => Err(AllocError::from(e).into()),
+    }
+}
+
 /// Node 9, which begins one payment.
 pub fn payer(alloc: Global, bounds: Bounds) -> Result<Box<Payer>, PayerFault> {
-    let made = Payer::new(alloc, point(9), Estimates::new(alloc));
-    let mut payer = match Box::new(alloc, made) {
-        Ok(payer) => payer,
-        Err(e) => return Err(AllocError::from(e).into()),
-    };
+    let mut payer = payer_without(alloc)?;
     begin(alloc, &mut payer, bounds)?;
     Ok(payer)
 }
@@ -104,51 +109,4 @@ pub fn next_part(
         height: 100,
     };
     payer.next_part(alloc, payment, &sight)
-}
-
-/// Its number, where the channel can send this much once parts of a lower number than 0 are reckoned: none.
-pub fn next(
-    rt: &impl Abort,
-    alloc: Global,
-    payer: &mut Payer,
-    payment: u64,
-    map: &Map,
-    max: u64,
-) -> Result<Option<u64>, Unpaid> {
-    match next_part(rt, alloc, payer, payment, map, max, 0)? {
-        Some(sending) => Ok(Some(sending.part)),
-        None => Ok(None),
-    }
-}
-
-/// A failure of the node at a place.
-pub fn failure(place: usize, code: u16) -> Failure {
-    Failure {
-        place,
-        code,
-        is_renewed: false,
-    }
-}
-
-/// Of each part that was sent for the payment at a place the amount, the fee, and the id of the last hop.
-pub fn sent(
-    rt: &impl Abort,
-    alloc: Global,
-    payer: &Payer,
-    place: usize,
-) -> Result<Vec<(u64, u64, u64)>, AllocError> {
-    assert!(rt; place < payer.payments().len());
-    let mut sent = Vec::new(alloc);
-    for part in payer.payments()[place].parts() {
-        let hops = part.route.as_slice();
-        sent.push((part.amount, part.fee, hops[hops.len() - 1].scid.to_u64()))?;
-    }
-    Ok(sent)
-}
-
-/// Whether the payment at a place is paid, what is left of it, and its fees.
-pub fn state(rt: &impl Abort, payer: &Payer, place: usize) -> (bool, u64, u64) {
-    assert!(rt; place < payer.payments().len());
-    let payment = &payer.payments()[place];
-    (payment.is_paid(), payment.left(), payment.fees())
 }

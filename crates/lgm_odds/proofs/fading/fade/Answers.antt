@@ -1,4 +1,4 @@
-use Rattle.std.proofs.Common.{◌≡◌, ◌≤◌, ◌<◌, ap, subst, take, length, arith}
+use Rattle.std.proofs.Common.{◌≡◌, ◌<◌, ap, subst, take, length, arith}
 use Rattle.std.proofs.lemmas.List.{take_all}
 use Rattle.lgm_graph.specs.Estimates.{Entries, estimate_of}
 use Rattle.lgm_odds.proofs.FadingLaws.{AreLaid, laid_at, laid_all}

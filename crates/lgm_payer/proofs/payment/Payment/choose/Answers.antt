@@ -1,10 +1,10 @@
-use Rattle.std.proofs.Common.{◌∙◌, List, ap, sym}
+use Rattle.std.proofs.Common.{◌∙◌, List, ap, sym, arith}
 use Rattle.lgm_graph.specs.declared.overlay.ExtraEdge.{ExtraEdge}
 use Rattle.lgm_graph.specs.Estimates.{estimate_of}
 use Rattle.lgm_payer.specs.Payments.{PaymentState}
 use Rattle.lgm_payer.specs.Preferring.{preferences_for}
 use Rattle.lgm_payer.specs.Searches.{prospect_of, room_out}
-use Rattle.lgm_payer.proofs.ProspectLaws.{overlay_is, prospect_is, offered_over, unfound_over}
+use Rattle.lgm_payer.proofs.ProspectLaws.{overlay_is, extra_count, prospect_is, offered_over, unfound_over}
 use Rattle.lgm_payer.proofs.payment.Payment.choose.Goals as goal
 
 pub returns-clause-offered : goal.returns-clause-offered
@@ -40,3 +40,14 @@ returns-clause-why c =
     (c.deref-5.ensures.value ∙ c.in_ok-extra.ensures) (c.deref-6.ensures.value ∙ c.in_ok-limits.ensures) over sends in
     unfound_over _ (prospect_of (preferences_for sight.preferences payment) (estimate_of c.args.estimates.now) sight.view.now.known
     sight.map.now payment sight.own.now c.args.since.now c.args.busy.now sight.height) payment c.offer_or_short.result same c.offer_or_short.ensures.why
+
+pub offer_or_short-requires-clause-few : goal.offer_or_short-requires-clause-few
+offer_or_short-requires-clause-few c =
+    let sight = c.args.sight.now in
+    let payment = c.args.self.now in
+    let over = overlay_is payment sight.map.now sight.own.now c.args.since.now c.args.busy.now c.deref-2.result.now c.deref-3.result.now
+    c.deref-4.result.now c.in_ok-overlay.overlay c.in_ok-overlay.ensures (c.deref-2.ensures.value ∙ c.in_ok-extra.ensures)
+    (c.deref-3.ensures.value ∙ c.in_ok-limits.ensures) (c.deref-4.ensures.value ∙ c.in_ok-silent.ensures) in
+    let count = extra_count payment sight.map.now sight.own.now c.args.since.now c.args.busy.now c.in_ok-overlay.overlay over in
+    let few = c.requires.few in
+    omega (arith, count, few)

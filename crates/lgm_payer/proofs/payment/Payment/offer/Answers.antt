@@ -1,4 +1,4 @@
-use Rattle.std.proofs.Common.{◌≡◌, ◌∙◌, Some, None, Option, ℕ, true, false, refl, sym, arith, rules, subst, inr}
+use Rattle.std.proofs.Common.{◌≡◌, ◌∙◌, Some, None, Option, ℕ, true, false, sym, arith, rules, subst, inr}
 use Rattle.std.specs.Prelude.{IfOk, IfErr}
 use Rattle.lgm_payer.specs.declared.offer.Offer.{Offer}
 use Rattle.lgm_payer.specs.declared.unfound.Unfound.{Unfound}
@@ -10,7 +10,7 @@ use Rattle.lgm_payer.proofs.ChoiceLaws.{better_fits, unlikely_next, without_next
 use Rattle.lgm_payer.proofs.payment.Payment.offer.Goals as goal
 
 pub dividing-init : goal.dividing-init
-dividing-init c = record { some = omega arith; few = λ two. absurd (omega (arith, two)); tried = start; fits = tt }
+dividing-init c = record { some = omega arith; few = λ two. absurd (omega (arith, two)); enough = λ two. absurd (omega (arith, two)); tried = start; fits = tt }
 
 pub dividing-preserved-in-Some : goal.dividing-preserved-in-Some
 dividing-preserved-in-Some c =
@@ -20,6 +20,7 @@ dividing-preserved-in-Some c =
     record {
       some = omega (arith, c.in-Some.ensures.more);
       few = λ two. c.in-Some.ensures.few;
+      enough = λ two. c.in-Some.ensures.enough;
       tried =
           unlikely_next (prospect_at c.args.outlook.now) c.args.self.now c.dividing.pieces c.piece-amount.result c.dividing.best
           c.in-Ok.offer c.better-better.result (Some c.in-Some.more) before.tried c.in-Ok.ensures.fit c.in-Ok.ensures.amount
@@ -62,6 +63,7 @@ dividing-preserved c =
     record {
       some = omega (arith, c.in-Some-next.ensures.more);
       few = λ two. c.in-Some-next.ensures.few;
+      enough = λ two. c.in-Some-next.ensures.enough;
       tried =
           without_next (prospect_at c.args.outlook.now) c.args.self.now c.dividing.pieces c.piece-amount.result c.dividing.best
           c.in-Err.reason (Some c.in-Some-next.more) before.tried c.in-Err.ensures.why c.piece-amount.ensures.exact mended next;
