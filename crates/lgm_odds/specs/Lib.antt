@@ -2,3 +2,4 @@ pub mod Carried
 pub mod Lessons
 pub mod RouteOdds
 pub mod Fading
+pub mod Room

@@ -60,7 +60,7 @@ fn at_most(scid: Scid, from: &Point, most: u64, limit: &Limit) -> u64
 }
 
 /// The least of an amount and the limits of an edge.
-fn most_of(limits: &[Limit], scid: Scid, from: &Point, max: u64) -> u64
+pub(crate) fn most_of(limits: &[Limit], scid: Scid, from: &Point, max: u64) -> u64
     ensures { result ≡ most_of limits.now scid from.now max }
 {
     let mut most = max;

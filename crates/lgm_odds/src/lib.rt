@@ -8,8 +8,10 @@ mod edge_most;
 mod fading;
 mod lesson;
 mod odds;
+mod room;
 
 pub use carried::carried_over;
 pub use fading::{Elapsed, fade};
 pub use lesson::{Lesson, beside};
 pub use odds::route_odds;
+pub use room::room_into;

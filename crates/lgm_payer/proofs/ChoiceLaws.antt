@@ -52,10 +52,10 @@ module _ (prospect : Prospect) (payment : PaymentState) where
   }
 
   -- the best is offered once all amounts were tried
-  pub best_offered : (best : Option Offer) (reason : Unfound) → left payment ≤ prospect.room → IsTried prospect payment None best
+  pub best_offered : (best : Option Offer) (reason : Unfound) → left payment ≤ prospect.room → left payment ≤ prospect.payee_room → IsTried prospect payment None best
       → IfSome best (IsFit prospect payment) → IfOk (best_or best reason) (IsOffered prospect payment)
-  best_offered None reason room tried fits = tt
-  best_offered (Some offer) reason room tried fits = record { room = room; fit = fits; chosen = inr tried }
+  best_offered None reason room payee_room tried fits = tt
+  best_offered (Some offer) reason room payee_room tried fits = record { room = room; payee_room = payee_room; fit = fits; chosen = inr tried }
 
   -- or there is none
   pub none_offered : (pieces amount : ℕ) (best : Option Offer) (reason : Unfound)

@@ -17,6 +17,7 @@ use Rattle.lgm_payer.specs.declared.unpaid.Unpaid.TheVariants as unpaid
 use Rattle.lgm_payload.specs.Building.{built_for}
 use Rattle.lgm_odds.specs.Lessons.{AreTaught, believed}
 use Rattle.lgm_odds.specs.RouteOdds.{route_odds}
+use Rattle.lgm_odds.specs.Room.{room_into}
 use Rattle.lgm_payer.specs.declared.failure.Ending.{Ending}
 use Rattle.lgm_payer.specs.declared.offer.Offer.{Offer}
 use Rattle.lgm_payer.specs.Parts.{part_of}
@@ -56,7 +57,9 @@ sent_in seen old new payment place part odds is_best payloads before after offer
           found_room seen.rows before seen.own since busy seen.known
           (penalty_with (preferences_for seen.preferences before) (believed old.learnt busy))
           (route_odds seen.rows (extra_of before seen.own since busy) (limits_of before seen.rows busy) (believed old.learnt busy))
-          seen.height (room_out before.payer (extra_of before seen.own since busy)) offer.amount offer.found offered.fit.share.some offered.fit.route;
+          seen.height (room_out before.payer (extra_of before seen.own since busy))
+          (room_into seen.rows (extra_of before seen.own since busy) (limits_of before seen.rows busy) (believed old.learnt busy)
+          before.invoice.payee) offer.amount offer.found offered.fit.share.some offered.fit.route;
       payloads_are = built;
       number = numbered;
       odds_are = odd;

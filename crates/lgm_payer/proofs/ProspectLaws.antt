@@ -15,6 +15,7 @@ use Rattle.lgm_graph.specs.Estimates.{Entries, estimate_of}
 use Rattle.lgm_graph.specs.Overlay.{OverlayParts, extra_edge, overlaid_edges}
 use Rattle.lgm_route.specs.declared.preferences.Preferences.{Preferences}
 use Rattle.lgm_odds.specs.RouteOdds.{route_odds}
+use Rattle.lgm_odds.specs.Room.{room_into}
 use Rattle.lgm_odds.specs.Lessons.{believed}
 use Rattle.lgm_payer.specs.declared.offer.Offer.{Offer}
 use Rattle.lgm_payer.specs.declared.unfound.Unfound.{Unfound}
@@ -30,13 +31,14 @@ use Rattle.lgm_payer.specs.Looking.{IsUnfound}
 
 -- ---- as it is made
 
-abbrev pub prospect : Preferences → (ℕ → Point → Estimate) → Option (List ℕ) → Rows → List ExtraEdge → List Limit → OverlayParts → ℕ → ℕ → Prospect
-prospect preferences beliefs known rows extra limits overlay height room = record {
+abbrev pub prospect : Preferences → (ℕ → Point → Estimate) → Option (List ℕ) → Rows → List ExtraEdge → List Limit → OverlayParts → ℕ → ℕ → ℕ → Prospect
+prospect preferences beliefs known rows extra limits overlay height room payee_room = record {
   penalty = penalty_with preferences beliefs;
   odds = route_odds rows extra limits beliefs;
   edges = overlaid_edges known rows overlay;
   height = height;
   room = room;
+  payee_room = payee_room;
 }
 
 -- an overlay that is made of what a payment knows
@@ -65,20 +67,24 @@ extra_count payment rows own since busy overlay over =
 -- a prospect that is made of it
 pub prospect_is : (preferences chosen : Preferences) (beliefs : ℕ → Point → Estimate) (known : Option (List ℕ)) (rows : Rows)
     (payment : PaymentState) (own : List ExtraEdge) (since busy : List Hop) (height : ℕ) (extra : List ExtraEdge)
-    (limits : List Limit) (overlay : OverlayParts) (room : ℕ) → preferences ≡ chosen
+    (limits : List Limit) (overlay : OverlayParts) (room payee_room : ℕ) → preferences ≡ chosen
     → extra ≡ extra_of payment own since busy → limits ≡ limits_of payment rows busy
     → overlay ≡ overlay_of payment rows own since busy → room ≡ room_out payment.payer extra
-    → prospect preferences beliefs known rows extra limits overlay height room
+    → payee_room ≡ room_into rows extra limits beliefs payment.invoice.payee
+    → prospect preferences beliefs known rows extra limits overlay height room payee_room
     ≡ prospect_of chosen beliefs known rows payment own since busy height
-prospect_is preferences chosen beliefs known rows payment own since busy height extra limits overlay room prefers edges most over sends =
-    ap (λ (p : Preferences). prospect p beliefs known rows extra limits overlay height room) prefers
-    ∙ ap (λ n. prospect chosen beliefs known rows extra limits overlay height n) sends
-    ∙ ap (λ (list : List ExtraEdge). prospect chosen beliefs known rows list limits overlay height (room_out payment.payer list)) edges
+prospect_is preferences chosen beliefs known rows payment own since busy height extra limits overlay room payee_room prefers edges most over sends gets =
+    ap (λ (p : Preferences). prospect p beliefs known rows extra limits overlay height room payee_room) prefers
+    ∙ ap (λ n. prospect chosen beliefs known rows extra limits overlay height n payee_room) sends
+    ∙ ap (λ n. prospect chosen beliefs known rows extra limits overlay height (room_out payment.payer extra) n) gets
+    ∙ ap (λ (list : List ExtraEdge). prospect chosen beliefs known rows list limits overlay height (room_out payment.payer list)
+    (room_into rows list limits beliefs payment.invoice.payee)) edges
     ∙ ap (λ (list : List Limit). prospect chosen beliefs known rows (extra_of payment own since busy) list overlay height
-    (room_out payment.payer (extra_of payment own since busy))) most
-    ∙ ap (λ (parts : OverlayParts).
-    prospect chosen beliefs known rows (extra_of payment own since busy) (limits_of payment rows busy) parts height
-    (room_out payment.payer (extra_of payment own since busy))) over
+    (room_out payment.payer (extra_of payment own since busy))
+    (room_into rows (extra_of payment own since busy) list beliefs payment.invoice.payee)) most
+    ∙ ap (λ (parts : OverlayParts). prospect chosen beliefs known rows (extra_of payment own since busy) (limits_of payment rows busy)
+    parts height (room_out payment.payer (extra_of payment own since busy))
+    (room_into rows (extra_of payment own since busy) (limits_of payment rows busy) beliefs payment.invoice.payee)) over
 
 -- what is offered, or why nothing is, over one that is the same
 pub offered_over : (made prospect : Prospect) (payment : PaymentState) (answer : Result Offer Unfound) → made ≡ prospect

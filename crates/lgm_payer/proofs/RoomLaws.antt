@@ -343,7 +343,7 @@ module _ (rows : Rows) (payment : PaymentState) (own : List ExtraEdge) (since bu
       subst (λ h. HaveRoom rows own payment.hints since busy h) (sym route.3)
       (walk_room known request request.payer route.0 some route.1.joins)
 
-  within_room : (limits : Option RouteLimits) (known : Option (List ℕ)) (penalty : PointEdge → ℕ → ℕ) (odds : List Hop → ℕ) (height room : ℕ)
+  within_room : (limits : Option RouteLimits) (known : Option (List ℕ)) (penalty : PointEdge → ℕ → ℕ) (odds : List Hop → ℕ) (height room payee_room : ℕ)
       (request : Request) (found : Found) → 1 ≤ request.amount
       → IsAnswerWithin limits (record {
         penalty = penalty;
@@ -351,14 +351,15 @@ module _ (rows : Rows) (payment : PaymentState) (own : List ExtraEdge) (since bu
         edges = overlaid_edges known rows (overlay_of payment rows own since busy);
         height = height;
         room = room;
+        payee_room = payee_room;
       }) request (Ok found)
       → HaveRoom rows own payment.hints since busy found.route
-  within_room None known penalty odds height room request found some none = cc
-  within_room (Some limits) known penalty odds height room request found some answer =
+  within_room None known penalty odds height room payee_room request found some none = cc
+  within_room (Some limits) known penalty odds height room payee_room request found some answer =
       some_room limits known request found.route some answer.1
 
   -- what a part is sent over has room
-  pub found_room : (known : Option (List ℕ)) (penalty : PointEdge → ℕ → ℕ) (odds : List Hop → ℕ) (height room amount : ℕ) (found : Found)
+  pub found_room : (known : Option (List ℕ)) (penalty : PointEdge → ℕ → ℕ) (odds : List Hop → ℕ) (height room payee_room amount : ℕ) (found : Found)
       → 1 ≤ amount
       → IsFoundFor (record {
         penalty = penalty;
@@ -366,10 +367,11 @@ module _ (rows : Rows) (payment : PaymentState) (own : List ExtraEdge) (since bu
         edges = overlaid_edges known rows (overlay_of payment rows own since busy);
         height = height;
         room = room;
+        payee_room = payee_room;
       }) payment amount found
       → HaveRoom rows own payment.hints since busy found.route
-  found_room known penalty odds height room amount found some (inl route) =
-      within_room (route_limits payment) known penalty odds height room (request_of payment amount height) found some route.answer.within
-  found_room known penalty odds height room amount found some (inr route) =
-      within_room (route_limits payment) known (penalty_at no_preferences []) odds height room (request_of payment amount height) found some
+  found_room known penalty odds height room payee_room amount found some (inl route) =
+      within_room (route_limits payment) known penalty odds height room payee_room (request_of payment amount height) found some route.answer.within
+  found_room known penalty odds height room payee_room amount found some (inr route) =
+      within_room (route_limits payment) known (penalty_at no_preferences []) odds height room payee_room (request_of payment amount height) found some
       route.route.answer.within

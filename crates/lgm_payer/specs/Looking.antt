@@ -25,6 +25,7 @@ prospect_at outlook = record {
   edges = overlaid_edges outlook.view.now.known outlook.map.now outlook.overlay.now;
   height = outlook.height;
   room = outlook.room;
+  payee_room = outlook.payee_room;
 }
 
 -- out of memory, or the payer's channels can't send what is left, or why there is no route

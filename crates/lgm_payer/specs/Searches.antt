@@ -21,13 +21,14 @@ use Rattle.lgm_route.specs.declared.fault.RouteFault.TheVariants.{NoRoute}
 use Rattle.lgm_route.specs.Odds.{penalty_by}
 use Rattle.lgm_route.specs.Preferred.{IsRouteBy, penalty_at, preferred_answer, no_preferences}
 use Rattle.lgm_odds.specs.RouteOdds.{route_odds}
+use Rattle.lgm_odds.specs.Room.{room_into}
 use Rattle.lgm_payer.specs.declared.failure.Ending.{Ending}
 use Rattle.lgm_payer.specs.declared.failure.Ending.TheVariants.{Unreadable, Failed}
 use Rattle.lgm_payer.specs.declared.invoice.Invoice.{Invoice}
 use Rattle.lgm_payer.specs.declared.offer.Offer.{Offer}
 use Rattle.lgm_payer.specs.declared.part.Part.{Part}
 use Rattle.lgm_payer.specs.declared.unfound.Unfound.{Unfound}
-use Rattle.lgm_payer.specs.declared.unfound.Unfound.TheVariants.{Search, TooDear, Short}
+use Rattle.lgm_payer.specs.declared.unfound.Unfound.TheVariants.{Search, TooDear, Short, PayeeShort}
 use Rattle.lgm_payer.specs.Failures.{kind_of, is_far}
 use Rattle.lgm_payer.specs.Reasons.{is_mendable}
 use Rattle.lgm_payer.specs.Payments.{PaymentState, IsShare, fees, left, parts_left}
@@ -95,13 +96,14 @@ abbrev pub room_out : Point → List ExtraEdge → ℕ
 room_out payer extra = min (2 ^ 64 - 1) (sum_by (λ edge. if is_point edge.from payer then edge.max else 0) extra)
 
 -- what a part is searched over: the penalty of an edge for an amount, the odds that a route fails, the edges, the height, and
--- what the payer's channels can send together
+-- what the payer's channels can send together, and the edges into the payee carry
 pub record Prospect : Type 0 where
   pub penalty : PointEdge → ℕ → ℕ
   pub odds : List Hop → ℕ
   pub edges : List PointEdge
   pub height : ℕ
   pub room : ℕ
+  pub payee_room : ℕ
 
 -- the penalty by what is believed of edges
 abbrev pub penalty_with : Preferences → (ℕ → Point → Estimate) → PointEdge → ℕ → ℕ
@@ -116,6 +118,7 @@ prospect_of preferences believed known rows payment own since busy height = reco
   edges = overlaid_edges known rows (overlay_of payment rows own since busy);
   height = height;
   room = room_out payment.payer (extra_of payment own since busy);
+  payee_room = room_into rows (extra_of payment own since busy) (limits_of payment rows busy) believed payment.invoice.payee;
 }
 
 -- that of a payer that prefers nothing but to send least
@@ -165,6 +168,7 @@ IsReason prospect payment amount (Search fault) =
     IsAnswerFor prospect payment amount (Err fault) ⊎ IsAnswerFor (plain prospect) payment amount (Err fault)
 IsReason prospect payment amount (TooDear fee) = IsTooDear prospect payment amount fee
 IsReason prospect payment amount (Short room) = ⊥
+IsReason prospect payment amount (PayeeShort room) = ⊥
 
 -- ---- which part is chosen
 
@@ -219,15 +223,17 @@ pub record IsFirstLikely (prospect : Prospect) (payment : PaymentState) (offer :
   pub amount : offer.amount ≡ piece payment pieces
   pub likely : is_likely offer ≡ true
 
--- the payer's channels can't send what is left: the edges out of the set of the payer alone have less room
+-- a cut: the payer's channels can't send what is left, or the edges into the payee can't carry it, in however many parts
 abbrev pub IsShort : Prospect → PaymentState → Unfound → Type 0
 IsShort prospect payment (Search fault) = ⊥
 IsShort prospect payment (TooDear fee) = ⊥
 IsShort prospect payment (Short room) = (room ≡ prospect.room) × (room < left payment)
+IsShort prospect payment (PayeeShort room) = (room ≡ prospect.payee_room) × (room < left payment)
 
 -- what a part is sent over: a route for the first amount that has a likely one, or else of all tried the best one
 pub record IsOffered (prospect : Prospect) (payment : PaymentState) (offer : Offer) : Type 0 where
   pub room : left payment ≤ prospect.room
+  pub payee_room : left payment ≤ prospect.payee_room
   pub fit : IsFit prospect payment offer
   pub chosen : IsFirstLikely prospect payment offer ⊎ IsTried prospect payment None (Some offer)
 

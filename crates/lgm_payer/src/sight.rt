@@ -43,4 +43,6 @@ pub(crate) struct Outlook<'a> {
     pub(crate) height: u32,
     /// What the payer's channels can send together, in msat.
     pub(crate) room: u64,
+    /// What the edges into the payee can carry together, in msat.
+    pub(crate) payee_room: u64,
 }

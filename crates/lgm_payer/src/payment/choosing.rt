@@ -19,6 +19,7 @@ use crate::sight::{Outlook, Sight};
 use crate::unfound::Unfound;
 use lgm_gossip::Point;
 use lgm_graph::{Estimates, ExtraEdge, Hop, Limit};
+use lgm_odds::room_into;
 use lgm_route::Preferences;
 use lgm_store::Map;
 use std::alloc::{AllocError, Global};
@@ -94,6 +95,8 @@ impl Payment {
         let extra = self.extra(alloc, sight.own, since, busy)?;
         let room = room_out(&self.payer, &extra);
         let limits = self.limits(alloc, sight.map, busy)?;
+        let payee = &self.invoice.payee;
+        let payee_room = room_into(alloc, sight.map, &extra, &limits, estimates, payee)?;
         let silent = self.silent(alloc)?;
         let overlay = overlaid(alloc, &extra, &limits, &silent)?;
         let outlook = Outlook {
@@ -107,6 +110,7 @@ impl Payment {
             budget: sight.budget,
             height: sight.height,
             room,
+            payee_room,
         };
         self.offer_or_short(alloc, &outlook)
     }

@@ -85,6 +85,7 @@ impl Payment {
         requires few { length outlook.now.view.now.points + 2 * length outlook.now.overlay.now.extra < 2 ^ 32 }
         requires left { 0 < left self.now }
         requires room { left self.now ≤ outlook.now.room }
+        requires payee_room { left self.now ≤ outlook.now.payee_room }
         ensures offered { IfOk result (IsOffered (prospect_at outlook.now) self.now) }
         ensures why { IfErr result (IsLast (prospect_at outlook.now) self.now) }
     {
@@ -120,7 +121,8 @@ impl Payment {
         }
     }
 
-    /// The same, unless the payer's channels can't send what is left, in however many parts.
+    /// The same, unless the payer's channels can't send what is left, or the edges into the payee can't carry it, in however many
+    /// parts.
     pub(crate) fn offer_or_short(
         &self,
         alloc: Global,
@@ -134,6 +136,9 @@ impl Payment {
     {
         if outlook.room < self.left() {
             return Err(Unfound::Short(outlook.room));
+        }
+        if outlook.payee_room < self.left() {
+            return Err(Unfound::PayeeShort(outlook.payee_room));
         }
         self.offer(alloc, outlook)
     }

@@ -145,6 +145,25 @@ fn no_hint_leaves_the_payer(rt: HostRuntime) -> Result<(), Fail> {
     Ok(())
 }
 
+/// The payee has two channels of 100,000 satoshis.
+#[test]
+fn the_payee_gets_too_little(rt: HostRuntime) -> Result<(), Fail> {
+    let alloc = rt.alloc();
+    let map = map_of(alloc, &two_ways())?;
+    let mut payer = payer_without(alloc)?;
+    let records = Vec::new(alloc);
+    payer.begin(alloc, invoice(200_000_001), &[], None, records, BOUNDS)?;
+    let cut = Unpaid::Unfound(Unfound::PayeeShort(200_000_000));
+    run(
+        &rt,
+        alloc,
+        &mut payer,
+        &map,
+        &[Step::Next(0, 1_000_000_000, 0, Err(cut))],
+    );
+    Ok(())
+}
+
 /// A hop of a route, of 1,000 msat.
 fn hop(scid: u64, from: u16, to: u16) -> Hop {
     Hop {

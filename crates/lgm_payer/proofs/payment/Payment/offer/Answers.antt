@@ -38,6 +38,7 @@ returns-in-None-clause-offered c =
     let next : none ≡ next_pieces c.args.self.now c.dividing.pieces = sym c.in-None.is ∙ c.next_pieces-next.ensures.exact in
     record {
       room = c.requires.room;
+      payee_room = c.requires.payee_room;
       fit =
           rw c.better-better.ensures
           (better_fits (prospect_at c.args.outlook.now) c.args.self.now c.dividing.best c.in-Ok.offer before.fits c.in-Ok.ensures.fit);
@@ -78,7 +79,7 @@ returns-in-None-next-clause-offered c =
     let next : none ≡ next_pieces c.args.self.now c.dividing.pieces =
     sym c.in-None-next.is ∙ c.next_pieces-next.ensures.exact in
     subst (λ (r : Result Offer Unfound). IfOk r (IsOffered (prospect_at c.args.outlook.now) c.args.self.now)) (sym c.best_or.ensures)
-    (best_offered (prospect_at c.args.outlook.now) c.args.self.now c.dividing.best c.in-Err.reason c.requires.room
+    (best_offered (prospect_at c.args.outlook.now) c.args.self.now c.dividing.best c.in-Err.reason c.requires.room c.requires.payee_room
     (without_next (prospect_at c.args.outlook.now) c.args.self.now c.dividing.pieces c.piece-amount.result c.dividing.best
     c.in-Err.reason None before.tried c.in-Err.ensures.why c.piece-amount.ensures.exact mended next) before.fits)
 
