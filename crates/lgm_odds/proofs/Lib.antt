@@ -1,0 +1,2 @@
+pub mod LessonLaws
+pub mod FadingLaws

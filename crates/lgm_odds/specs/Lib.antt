@@ -1,0 +1,5 @@
+pub mod Carried
+pub mod Lessons
+pub mod RouteOdds
+pub mod Fading
+pub mod Room

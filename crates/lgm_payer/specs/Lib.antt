@@ -1,0 +1,14 @@
+pub mod Failures
+pub mod Parts
+pub mod Payments
+pub mod UnderWay
+pub mod Overlays
+pub mod Learning
+pub mod Preferring
+pub mod Searches
+pub mod Reasons
+pub mod Payers
+pub mod Beginning
+pub mod History
+pub mod Looking
+pub mod Events

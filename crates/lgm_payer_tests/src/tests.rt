@@ -1,0 +1,4 @@
+mod events;
+mod made;
+mod parts;
+mod script;
