@@ -54,6 +54,7 @@ OUTSIDE = set("""
     create_route_from_path memcpy memmove memset malloc realloc free cc ar slab valgrind
 """.split())
 
+MAKES_NAMES_UP = "test_pages.py"
 # Comments, by the ends of the names of files: what they say isn't what there is.
 COMMENTS = {".rt": r"//.*", ".antt": r"(?m)^\s*--.*|\s--\s.*", ".c": r"(?s)/\*.*?\*/", ".h": r"(?s)/\*.*?\*/", ".rs": r"//.*",
             ".py": r'"""[\s\S]*?"""|(?<!\S)#.*'}
@@ -126,13 +127,13 @@ def declared():
     """For each crate, the names of its public functions and types, and those of all."""
     public, every = defaultdict(set), defaultdict(set)
     for source in TOP.glob("crates/*/src/**/*.rt"):
-        crate = source.relative_to(TOP / "crates").parts[0]
-        for is_public, name in re.findall(r"(?m)^ *(?:(pub )|pub\(crate\) )?(?:fn|struct|enum|trait|type) (\w+)", source.read_text()):
+        crate, text = source.relative_to(TOP / "crates").parts[0], source.read_text()
+        for is_public, name in re.findall(r"(?m)^ *(?:(pub )|pub\(crate\) )?(?:fn|struct|enum|trait|type) (\w+)", text):
             every[crate].add(name)
             if is_public:
                 public[crate].add(name)
-        # What a macro or a trait declares is public with it.
-        for body in re.findall(r"(?ms)^pub trait .*?^}", source.read_text()):
+        # What a trait declares is public with it.
+        for body in re.findall(r"(?ms)^pub trait .*?^}", text):
             public[crate] |= set(re.findall(r"\bfn (\w+)", body))
     return public, every
 
@@ -196,7 +197,7 @@ class Checker:
         self.words = set(OUTSIDE)
         for pattern in SOURCES:
             for source in TOP.glob(pattern):
-                if "out" not in source.parts and source.is_file() and source.name != "test_pages.py":  # it makes names up
+                if "out" not in source.parts and source.is_file() and source.name != MAKES_NAMES_UP:
                     text = re.sub(COMMENTS.get(source.suffix, "(?!)"), " ", source.read_text(errors="replace"))
                     self.words |= set(NAME.findall(text))
                     self.words |= {source.stem, *source.parts}
@@ -334,7 +335,7 @@ class Checker:
 
     @staticmethod
     def calls_of(cell):
-        """The names of calls and types in a cell, each behind what stands before it, but for those of clauses behind a colon."""
+        """The names of calls and types in a cell, each behind what stands before it; not those of clauses behind a colon."""
         for part in re.split(r"; |\*\*:? ", cell):
             yield from re.findall(r"([^`]*)`([A-Za-z_]\w*(?:::\w+)?)`", re.split(r"(?<=`): ", part)[0])
 
