@@ -1,6 +1,6 @@
 #!/usr/bin/env python3
-"""Tests which parts `./package` builds before it packs them, and that no page that it packs links to what it doesn't pack. Files
-that are empty stand for the sources and for what is built.
+"""Tests which parts `./package` builds before it packs them, where files that are empty stand for the sources and for what is
+built; and that no page that it packs links to what it doesn't pack.
 
     python3 tests/test_package.py
 
