@@ -276,9 +276,9 @@ enum {
  * Offers a gossip message, beginning with the two bytes of its type, with the verdicts on it (BOLT 7). The bytes of
  * `signer` are used only with LGM_SIG_BY, but it always points to 33 bytes; `sat` is used only with LGM_FUNDING_UNSPENT.
  *
- * Cost: log n; for a ban, or a node whose features change, also log n for each channel of the nodes. When as much was
- * accepted as the map has channels, and 1,024 more, since the mark's copy or the last but one publication was brought up
- * to date, this is done, as for lgm_close_channel and lgm_ban.
+ * Cost: log n; for a ban, or a node whose features change, also log n for each channel of the nodes. Once the mark's copy or
+ * the last but one publication lacks as much as the map has channels, and 1,024 more, a call also brings it up to date, as
+ * lgm_close_channel and lgm_ban do.
  *
  * LGM_CLOSED; LGM_PUBLISHED; LGM_ARGUMENT_SIG; LGM_ARGUMENT_FUNDING; 1 to 16; LGM_NO_MEMORY.
  */
@@ -650,8 +650,8 @@ uint32_t lgm_news_between(lgm_map *before, lgm_map *after, const uint8_t *filter
  * then none are, and the next lgm_news takes the time of the map. Before the first of them that comes after the first mark,
  * or after one that none led to, the map's index is copied. None are kept for a mark on a map without channels.
  *
- * Cost: constant; the next message, close or ban behind the first call copies the map, but not its messages, and so
- * behind a later one, if more was accepted since the mark before than the map has channels, and 1,024 more.
+ * Cost: constant. The next message, close or ban behind the first call copies the map, but not its messages. One behind a
+ * later call does so, too, if more was accepted since the mark before than the map has channels, and 1,024 more.
  *
  * LGM_CLOSED; LGM_PUBLISHED.
  */

@@ -6,15 +6,19 @@
 A test of the crates can't refuse memory itself. These are written so that they pass wherever one request is refused: a
 call that returns out of memory has left all as before, and gives its right answer when it is called again. They are the
 programs that `rt ci` leaves in `crates/NAME/out`, built of what was proved. It needs the GNU C library and a C compiler
-(`cc`). Without one it is left out, with status 77, and so are the tests of a crate whose program isn't there.
+(`cc`). Without one it is left out, with status 77, or fails where LGM_NEEDS_CC is set. Left out are also the tests of a
+crate whose program isn't there.
 """
 
 import os
-import shutil
 import subprocess
 import sys
 import tempfile
 from pathlib import Path
+
+sys.dont_write_bytecode = True  # the repository gets no made files
+
+import shim  # noqa: E402
 
 HERE = Path(__file__).resolve().parent
 CRATES = HERE.parent / "crates"
@@ -42,14 +46,13 @@ def passes(program, name, more):
     return ran.returncode == 0
 
 
-def refuse_each(shim, mark, program, name):
+def refuse_each(built, mark, program, name):
     """Refuses each request in turn. Returns how many there were, and with which of them refused the test fails."""
     call, wrong = 0, []
     while True:
         call += 1
         mark.unlink(missing_ok=True)
-        is_well = passes(program, name, {
-            "LD_PRELOAD": str(shim), "REFUSE": "memory", "REFUSE_CALL": str(call), "REFUSED": str(mark)})
+        is_well = passes(program, name, shim.settings(built, "memory", call, mark))
         if not mark.exists():
             return call - 1, wrong if is_well else [*wrong, 0]
         if not is_well:
@@ -58,25 +61,23 @@ def refuse_each(shim, mark, program, name):
 
 def main():
     """Runs each test."""
-    if not shutil.which("cc"):
-        print("left out: tests/memory.py, which needs cc")
-        return 77
+    shim.compiler_or_end("tests/memory.py")
     programs = {crate: CRATES / crate / "out" / f"{crate}_tests" for crate, _ in TESTS}
     good, ran = True, 0
     with tempfile.TemporaryDirectory() as name:
         folder = Path(name)
-        shim = folder / "refuse.so"
-        subprocess.run(["cc", "-O1", "-shared", "-fPIC", "-o", shim, HERE / "refuse.c", "-ldl"], check=True)
+        built = shim.built(folder)
         for crate, test in TESTS:
             program = programs[crate]
             if not program.exists():
                 print(f"left out: {test} of {crate}, which rt ci builds")
                 continue
             ran += 1
-            count, wrong = refuse_each(shim, folder / "refused", program, test)
+            count, wrong = refuse_each(built, folder / "refused", program, test)
             good = good and not wrong and count > 0
-            print(f"{crate}, {test}: refused {count}" + (f", FAILED at {', '.join(map(str, wrong))}" if wrong else ""))
-    return 1 if not good else 0 if ran else 77
+            failed = f", FAILED at {', '.join(map(str, wrong))}" if wrong else "" if count else ", FAILED: nothing was refused"
+            print(f"{crate}, {test}: refused {count}{failed}")
+    return 1 if not good else 0 if ran else shim.LEFT_OUT
 
 
 if __name__ == "__main__":

@@ -8,8 +8,13 @@ A page names things in `code spans`. Checked are
 - links to files of the repository, and to headings in them;
 - paths, as `examples/tools/client.py` or `lgm_wire/specs`, also behind `python3`, and modules of specs, as `inner/ScidSet`;
 - calls, as `Map::absorb`, and definitions of a module, as `Script.text_for`;
-- clauses behind calls, as `decode`: `found`, `only`, each of which one of the calls before the colon has to have;
-- all other names, which have to occur somewhere outside the pages, unless they are those of the kit or of a tool;
+- names in a list behind such a call, as `Map::new`, `replay`: each has to be of that type, or a call of its own;
+- clauses behind calls, as `decode`: `found`, `only`, each of which one of the calls before the colon has to have; and
+  clauses of a call, as `least.answer`;
+- all other names, which have to occur somewhere outside the pages and outside comments, unless they are those of the kit or
+  of a tool;
+- that the calls and types in the tables of docs/promises.md are of the crate whose row it is: of the table of every call
+  public ones of that crate, of the index some of it or of a crate that it stands on;
 - that the tables of docs/definitions.md list each module of specs in its folder, and no others;
 - the ways in docs/architecture.md: lines of a block with a call, its crate, and its files in the crate's `src`, each of
   which has to exist, and one of which has to have the call.
@@ -45,15 +50,23 @@ OUTSIDE = set("""
     required_channel_feature_missing temporary_node_failure permanent_node_failure required_node_feature_missing
     incorrect_cltv_expiry amount_below_minimum expiry_too_soon expiry_too_far incorrect_or_unknown_payment_details
     basic_mpp encrypted_recipient_data gossip_queries gossip_queries_ex warning
+    F.texts sync.Mutex runtime.LockOSThread liblgm.a liblgm.so BUILD.bazel routes.map
     create_route_from_path memcpy memmove memset malloc realloc free cc ar slab valgrind
 """.split())
 
+MAKES_NAMES_UP = "test_pages.py"
+# Comments, by the ends of the names of files: what they say isn't what there is.
+COMMENTS = {".rt": r"//.*", ".antt": r"(?m)^\s*--.*|\s--\s.*", ".c": r"(?s)/\*.*?\*/", ".h": r"(?s)/\*.*?\*/", ".rs": r"//.*",
+            ".py": r'"""[\s\S]*?"""|(?<!\S)#.*'}
+# The tables of docs/promises.md by crate: the headings of their sections, the column of the calls, and whether these are of
+# the crate alone.
+BY_CRATE = (("## Index", 2, False), ("## Every call", 0, True))
 HASH = re.compile(r"[0-9a-f]{64}")
 NAME = re.compile(r"[A-Za-z_][A-Za-z0-9_]*")
 PATH = re.compile(r"[.A-Za-z0-9_*-]+(/[.A-Za-z0-9_*-]*)+")
 # A line of a way: what is called, its crate, its files in `src`, and maybe what it does.
 STEP = re.compile(r" {4}[ |]+(\w.*?)(?: \(\w+\))? {2,}(lgm_\w+) +(\w[\w/]*(?:, \w[\w/]*)*)(?: {2,}.*)?")
-FILE = re.compile(r"[A-Za-z0-9_-]+\.(rt|antt|py|md|txt|out|svg|c|h|edit)")
+FILE = re.compile(r"[A-Za-z0-9_-]+\.(rt|antt|py|md|txt|out|svg|c|h|edit|rs|toml|lock)")
 
 
 def records():
@@ -110,6 +123,51 @@ def definitions():
     return names
 
 
+def declared():
+    """For each crate, the names of its public functions and types, and those of all."""
+    public, every = defaultdict(set), defaultdict(set)
+    for source in TOP.glob("crates/*/src/**/*.rt"):
+        crate, text = source.relative_to(TOP / "crates").parts[0], source.read_text()
+        for is_public, name in re.findall(r"(?m)^ *(?:(pub )|pub\(crate\) )?(?:fn|struct|enum|trait|type) (\w+)", text):
+            every[crate].add(name)
+            if is_public:
+                public[crate].add(name)
+        # What a trait declares is public with it.
+        for body in re.findall(r"(?ms)^pub trait .*?^}", text):
+            public[crate] |= set(re.findall(r"\bfn (\w+)", body))
+    return public, every
+
+
+def crates_below():
+    """For each crate, itself and those that it stands on."""
+    lines = [line.split(":") for line in (TOP / "crates.txt").read_text().splitlines() if line and line[0] != "#"]
+    return {name.split()[0]: {name.split()[0], *below.split()} for name, below in lines}
+
+
+def free_calls():
+    """The functions of no type: of crates but those of tests, of the library, and of its crate for Rust."""
+    names = {name for source in TOP.glob("crates/*/src/**/*.rt") if not source.parts[-3].endswith("_tests")
+             for name in re.findall(r"(?m)^(?:pub(?:\(crate\))? )?fn (\w+)", source.read_text())}
+    for source in TOP.glob("examples/rust/src/*.rs"):
+        names |= set(re.findall(r"(?m)^pub fn (\w+)", source.read_text()))
+    return names | set(re.findall(r"\b(lgm_\w+)\(", (TOP / "include/lgm.h").read_text()))
+
+
+def classes():
+    """For each class of the Python package, its members."""
+    members = defaultdict(set)
+    for source in TOP.glob("python/lgm/*.py"):
+        owner = None
+        for line in source.read_text().splitlines():
+            if found := re.match(r"class (\w+)", line):
+                owner = found[1]
+            elif line and line[0] not in " )#":
+                owner = None
+            if owner and (found := re.match(r"    (?:def )?(\w+)\b", line)):
+                members[owner].add(found[1])
+    return members
+
+
 def anchors(page):
     """The anchors of a page's headings."""
     heads = re.findall(r"(?m)^#+ (.*)$", page.read_text())
@@ -132,18 +190,23 @@ class Checker:
     def __init__(self):
         self.clauses, self.members = named_clauses()
         self.modules = definitions()
+        self.public, self.declared = declared()
+        self.below = crates_below()
+        self.free = free_calls()
+        self.classes = classes()
         self.words = set(OUTSIDE)
         for pattern in SOURCES:
             for source in TOP.glob(pattern):
-                if "out" not in source.parts and source.is_file():
-                    self.words |= set(NAME.findall(source.read_text(errors="replace")))
+                if "out" not in source.parts and source.is_file() and source.name != MAKES_NAMES_UP:
+                    text = re.sub(COMMENTS.get(source.suffix, "(?!)"), " ", source.read_text(errors="replace"))
+                    self.words |= set(NAME.findall(text))
                     self.words |= {source.stem, *source.parts}
         self.faults = []
 
     def page(self, page):
         """Checks a page."""
         for count, line in enumerate(prose(page.read_text()), 1):
-            for why in (*self.links(page, line), *self.spans(page, line), *self.cited(line)):
+            for why in (*self.links(page, line), *self.spans(page, line), *self.cited(line), *self.lists(line)):
                 self.faults.append(f"{page.relative_to(TOP)}:{count}: {why}")
 
     def links(self, page, line):
@@ -225,9 +288,56 @@ class Checker:
             return f"{found[1]} has no {found[2]}"
         if (found := re.fullmatch(r"(\w+)\.(\w+)", word)) and found[1] in self.modules:
             return "" if found[2] in self.modules[found[1]] else f"the module {found[1]} has no {found[2]}"
+        if found and found[1] in self.classes:
+            return "" if found[2] in self.classes[found[1]] else f"the class {found[1]} has no {found[2]}"
+        if found := re.fullmatch(r"((?:\w+::)?\w+)\.(\w+)", word):
+            if found[1] == "lgm":
+                return "" if found[2] in self.words else f"nothing outside the pages is named {found[2]}"
+            known = self.clauses.get(found[1])
+            if any(found[2] in members for members in self.classes.values()):
+                return ""
+            return "" if known and found[2] in known else f"{found[1]} has no clause {found[2]}"
         if NAME.fullmatch(word) and not HASH.fullmatch(word) and word not in self.words and word not in self.modules:
             return f"nothing outside the pages is named {word}"
         return ""
+
+    def lists(self, line):
+        """Names in a list of calls, behind that of a type's, which are neither of that type nor calls of their own."""
+        for run in re.findall(r"`\w+::\w+`(?:,? and `\w+`|, `\w+(?:::\w+)?`)+", line):
+            owner = None
+            for name in re.findall(r"`([\w:]+)`", run):
+                owner, _, bare = name.rpartition("::") if "::" in name else (owner, "", name)
+                is_type = owner[0].isupper() and bare[0].islower()
+                if name == bare and is_type and not (bare in self.members[owner] or bare in self.free):
+                    yield f"neither has {owner} a call {bare}, nor is there one beside"
+
+    def by_crate(self, page):
+        """Calls and types in the tables by crate that aren't of the crate of their row, by lines."""
+        section, column, is_public, crate = "", None, False, None
+        for count, line in enumerate(page.read_text().splitlines(), 1):
+            if line.startswith("## "):
+                section, crate = line, None
+                column, is_public = next((more for begin, *more in BY_CRATE if line.startswith(begin)), (None, False))
+            if column is None or not line.startswith("| ") or line.startswith("| call") or line.startswith("| crate"):
+                continue
+            cells = re.sub(r"\([^()]*\)", "", line[1:]).split(" | ")
+            if found := re.search(r"^ \**`(\w+)`", cells[0]):
+                crate = found[1] if found[1] in self.below else crate
+            for before, name in self.calls_of(cells[column]):
+                if before.endswith("of ") and name in self.below:
+                    crate = name
+                elif not name.startswith("lgm_"):
+                    names, crates = (self.public, {crate}) if is_public else (self.declared, self.below[crate])
+                    if "::" in name and not is_public:
+                        crates = self.below  # some are of a crate above
+                    if not all(any(part in names[at] for at in crates) for part in name.split("::")):
+                        yield count, f"{crate} has no {'public ' if is_public else ''}{name}"
+
+    @staticmethod
+    def calls_of(cell):
+        """The names of calls and types in a cell, each behind what stands before it; not those of clauses behind a colon."""
+        for part in re.split(r"; |\*\*:? ", cell):
+            yield from re.findall(r"([^`]*)`([A-Za-z_]\w*(?:::\w+)?)`", re.split(r"(?<=`): ", part)[0])
 
     def cited(self, line):
         """Clauses behind calls that none of the calls has."""
@@ -247,6 +357,8 @@ def main():
     for page in PAGES:
         checker.page(page)
     definitions_page = TOP / "docs/definitions.md"
+    promises = TOP / "docs/promises.md"
+    checker.faults += [f"docs/promises.md:{count}: {why}" for count, why in checker.by_crate(promises)]
     checker.faults += [f"docs/definitions.md: {why}" for why in checker.listed(definitions_page)]
     checker.faults += [f"docs/architecture.md:{count}: {why}" for count, why in checker.ways(TOP / "docs/architecture.md")]
     print(*checker.faults, sep="\n", end="\n" if checker.faults else "")

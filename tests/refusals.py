@@ -9,16 +9,20 @@ payment), a script of closes, queries and filters, one with a payment for each o
 answers the whole script, or ends with status 1, the line of that fault on standard error, and a beginning of the text
 on standard output. A payment of `lgm live` has the answer of `lgm run` on the map of the version that it names. A run
 that takes ten seconds hangs, as when workers wait for a writer that failed; no further call of its kind is refused
-then. It needs the GNU C library and a C compiler (`cc`), and is left out without one, with status 77. PROGRAM is
-crates/lgm/out/lgm if left out.
+then. Of each kind of call that a run makes at least one has to be refused. It needs the GNU C library and a C compiler
+(`cc`). Without one it is left out, with status 77, or fails where LGM_NEEDS_CC is set. PROGRAM is crates/lgm/out/lgm if
+left out.
 """
 
 import os
-import shutil
 import subprocess
 import sys
 import tempfile
 from pathlib import Path
+
+sys.dont_write_bytecode = True  # the repository gets no made files
+
+import shim  # noqa: E402
 
 HERE = Path(__file__).resolve().parent
 PROGRAM = sys.argv[1] if len(sys.argv) > 1 else HERE.parent / "crates/lgm/out/lgm"
@@ -104,7 +108,12 @@ def objection(kind, every, ended):
     return "" if is_right else "the text isn't a beginning"
 
 
-def refuse_each(shim, folder, mode, script, workers, kind, every):
+def has_calls(mode, workers, kind):
+    """Whether a run makes calls of a kind: all do, but one worker alone starts no thread."""
+    return kind != "thread" or mode == "live" or workers > 1
+
+
+def refuse_each(built, folder, mode, script, workers, kind, every):
     """Refuses each call of a kind in turn. Returns how many there were, and what was wrong."""
     text = script.read_bytes()
     mark = folder / "refused"
@@ -114,11 +123,12 @@ def refuse_each(shim, folder, mode, script, workers, kind, every):
         mark.unlink(missing_ok=True)
         where = f"{mode} {script.name}, {workers} workers, {kind} {call}"
         try:
-            ended = run(mode, text, workers, {
-                "LD_PRELOAD": str(shim), "REFUSE": kind, "REFUSE_CALL": str(call), "REFUSED": str(mark)})
+            ended = run(mode, text, workers, shim.settings(built, kind, call, mark))
         except subprocess.TimeoutExpired:
             return call, [*wrong, f"{where}: the run hangs"]
         if not mark.exists():
+            if call == 1 and has_calls(mode, workers, kind):
+                wrong.append(f"{where}: nothing was refused")
             return call - 1, wrong
         found = objection(kind, every, ended)
         if found:
@@ -126,21 +136,18 @@ def refuse_each(shim, folder, mode, script, workers, kind, every):
 
 
 def main():
-    if not shutil.which("cc"):
-        print("left out: tests/refusals.py, which needs cc")
-        sys.exit(77)
+    shim.compiler_or_end("tests/refusals.py")
     good = True
     with tempfile.TemporaryDirectory() as name:
         folder = Path(name)
-        shim = folder / "refuse.so"
-        subprocess.run(["cc", "-O1", "-shared", "-fPIC", "-o", shim, HERE / "refuse.c", "-ldl"], check=True)
+        built = shim.built(folder)
         for script in SCRIPTS:
             for mode in ("run", "live"):
                 every = answers(mode, script.read_bytes())
                 for workers in WORKERS:
                     counts = []
                     for kind in FAULTS:
-                        count, wrong = refuse_each(shim, folder, mode, script, workers, kind, every)
+                        count, wrong = refuse_each(built, folder, mode, script, workers, kind, every)
                         counts.append(f"{count} {kind}")
                         good = good and not wrong
                         print(*wrong, sep="\n", end="\n" if wrong else "")

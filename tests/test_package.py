@@ -1,5 +1,6 @@
 #!/usr/bin/env python3
-"""Tests which parts `./package` builds before it packs them. Files that are empty stand for the sources and for what is built.
+"""Tests which parts `./package` builds before it packs them, where files that are empty stand for the sources and for what is
+built; and that no page that it packs links to what it doesn't pack.
 
     python3 tests/test_package.py
 
@@ -92,13 +93,26 @@ def builds_for_any_processor(package):
         assert told.read_text() == "default\n"
 
 
+def pages_link_to_what_is_packed(package):
+    """Each link of a page leads to a packed file. One that doesn't is found."""
+    files = package.pages()
+    assert TOP / "docs/embedding.md" in files and TOP / "tests/pages.py" not in files
+    lost = list(package.lost_links(files))
+    assert not lost, lost
+    fewer = files - {TOP / "bench/README.md"}
+    assert "docs/speed.md links to ../bench/README.md, which isn't packed" in list(package.lost_links(fewer))
+    assert not any("network.svg" in why for why in package.lost_links(fewer))
+    assert any("network.svg" in why for why in package.lost_links(files - {TOP / "docs/network.svg"}))
+
+
 def main():
-    """Runs both."""
+    """Runs each."""
     package = loaded()
+    pages_link_to_what_is_packed(package)
     builds_for_any_processor(package)
     with tempfile.TemporaryDirectory() as folder:
         only_what_is_stale_is_built(Place(package, Path(folder)))
-    print("2 passed")
+    print("3 passed")
 
 
 if __name__ == "__main__":
