@@ -120,9 +120,10 @@ fn add_faded_at(
     add_faded(left, map, learnt, time, &key)
 }
 
-/// What is left of what was learnt of edges once time went by: of each half for each half-life, since balances move. What an edge
-/// surely carries falls to nothing, the most that it may carry rises to its channel's capacity, and its penalty falls. What then says
-/// little is forgotten, and so are edges of channels that the map hasn't. The only error is out of memory.
+/// What is left of what was learnt of edges once time went by: of each half for each half-life, since balances move.
+/// What an edge surely carries falls to nothing, the most that it may carry rises to its channel's capacity, and its
+/// penalty falls. What then says little is forgotten, and so are edges of channels that the map hasn't. The only error
+/// is out of memory.
 pub fn fade(
     alloc: Global,
     map: &Map,

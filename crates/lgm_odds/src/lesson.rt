@@ -48,8 +48,8 @@ impl Lesson {
         }
     }
 
-    /// Has estimates learn it of a hop's edge, where the amount is in msat. The only error is out of memory, which changes
-    /// nothing.
+    /// Has estimates learn it of a hop's edge, where the amount is in msat. The only error is out of memory, which
+    /// changes nothing.
     pub fn teach(self, estimates: &mut Estimates, hop: &Hop, amount: u64) -> Result<(), AllocError>
         ensures { OnOk result (AreTaught (taught_by self hop.now amount) estimates.old estimates.new) }
     {
@@ -95,8 +95,9 @@ fn lowered_by(
     }
 }
 
-/// What is believed of edges beside some hops: each edge has less by what they carry over it. None, if that is what was learnt,
-/// since nothing is known of the edges that they are over; then nothing is copied. The only error is out of memory.
+/// What is believed of edges beside some hops: each edge has less by what they carry over it. None, if that is what was
+/// learnt, since nothing is known of the edges that they are over; then nothing is copied. The only error is out of
+/// memory.
 pub fn beside(learnt: &Estimates, busy: &[Hop]) -> Result<Option<Estimates>, AllocError>
     ensures { IfOk result (λ beside. estimate_of (unwrap_or beside learnt.now) ≡ believed learnt.now busy.now) }
 {

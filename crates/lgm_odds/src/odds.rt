@@ -14,7 +14,8 @@ const EVEN: u64 = 1_000_000;
 /// The greatest odds of an edge: 100 to 1.
 const MOST_ODDS: u128 = 100_000_000;
 
-/// In millionths the odds of a failure against none, of an edge of which this is believed, and that forwards no more than this.
+/// In millionths the odds of a failure against none, of an edge of which this is believed, and that forwards no more
+/// than this.
 fn failure_odds(estimate: Estimate, most: u64, amount: u64) -> u64
     ensures exact { result ≡ failure_odds estimate most amount }
     ensures low { result ≤ 100000000 }
@@ -59,12 +60,13 @@ fn sum_of_odds(
     sum
 }
 
-/// The odds that a route fails, in millionths: the sum of the odds of a failure of its channels, but for the first, which is
-/// the payer's own. A route of odds of 3,000,000, 3 to 1, arrives with odds of 1 to 3 or so.
+/// The odds that a route fails, in millionths: the sum of the odds of a failure of its channels, but for the first,
+/// which is the payer's own. A route of odds of 3,000,000, 3 to 1, arrives with odds of 1 to 3 or so.
 ///
-/// Those of a channel are the amount above what it surely carries, over what is left of what it may carry at most, plus one; at
-/// most 100 to 1: what it carries may be anything between, all equally likely. At most it forwards the maximum of the first of
-/// the extra edges with its name, or else of the map's direction, 0 if there is none; or a limit that is less.
+/// Those of a channel are the amount above what it surely carries, over what is left of what it may carry at most, plus
+/// one; at most 100 to 1: what it carries may be anything between, all equally likely. At most it forwards the maximum
+/// of the first of the extra edges with its name, or else of the map's direction, 0 if there is none; or a limit that
+/// is less.
 pub fn route_odds(
     map: &Map,
     extra: &[ExtraEdge],

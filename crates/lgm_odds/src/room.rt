@@ -78,8 +78,8 @@ fn all_room_by(
     room
 }
 
-/// What the edges into a node can carry together, in msat, and 2^64 - 1 at most: of those beside the map their maxima, and of the
-/// map's channels their capacities, what is believed of them, or limits. The only error is out of memory.
+/// What the edges into a node can carry together, in msat, and 2^64 - 1 at most: of those beside the map their maxima,
+/// and of the map's channels their capacities, what is believed of them, or limits. The only error is out of memory.
 pub fn room_into(
     alloc: Global,
     map: &Map,

@@ -11,8 +11,8 @@ pub struct Failure {
     pub place: usize,
     /// Its `failure_code`.
     pub code: u16,
-    /// Whether the map has other terms of the hop that this node didn't take than when the part was sent, as by the update
-    /// that came with the message.
+    /// Whether the map has other terms of the hop that this node didn't take than when the part was sent, as by the
+    /// update that came with the message.
     pub is_renewed: bool,
 }
 
@@ -30,8 +30,8 @@ pub enum Ending {
 pub enum FailureKind {
     /// The balance of the next hop: `temporary_channel_failure`.
     Balance,
-    /// The node: `temporary_node_failure`, `permanent_node_failure`, `required_node_feature_missing`, and what it says of the
-    /// onion.
+    /// The node: `temporary_node_failure`, `permanent_node_failure`, `required_node_feature_missing`, and what it says
+    /// of the onion.
     Node,
     /// The terms of the next hop: `fee_insufficient`, `incorrect_cltv_expiry`, `amount_below_minimum`, `expiry_too_soon`.
     Terms,
@@ -110,9 +110,6 @@ fn is_node_failure(code: u16) -> bool
     code == TEMPORARY_NODE_FAILURE
         || code == PERMANENT_NODE_FAILURE
         || code == REQUIRED_NODE_FEATURE_MISSING
-        || code == INVALID_ONION_VERSION
-        || code == INVALID_ONION_HMAC
-        || code == INVALID_ONION_KEY
         || code == INVALID_ONION_PAYLOAD
 }
 
@@ -159,8 +156,8 @@ fn is_forwarding_failure(code: u16) -> bool
         || is_onion_failure(code)
 }
 
-/// Whether the payee, or a node before it, may send a failure code (BOLT 4, "Failure Messages"). One that isn't named there may
-/// come from any node.
+/// Whether the payee, or a node before it, may send a failure code (BOLT 4, "Failure Messages"). One that isn't named
+/// there may come from any node.
 pub(crate) fn may_send(is_payee: bool, code: u16) -> bool
     ensures { result ≡ may_send is_payee code }
 {

@@ -22,8 +22,8 @@ use std::marker::Model;
 
 /// A payer: its payments, and what it has learnt of edges. Contracts see both.
 ///
-/// Payments have numbers, in the order in which they were begun, and so have parts, over all payments, in the order in which they
-/// were sent. No number is given twice.
+/// Payments have numbers, in the order in which they were begun, and so have parts, over all payments, in the order in
+/// which they were sent. No number is given twice.
 #[derive(Drop)]
 pub struct Payer {
     point: Point,
@@ -64,9 +64,9 @@ impl Payer {
         }
     }
 
-    /// Begins a payment, and returns its number: how many were begun before. Of the hints, edges from each node to the next one,
-    /// those out of the payer are left out. The metadata are those of the invoice (BOLT 11, `m`), and the records are for the payee,
-    /// by ascending types.
+    /// Begins a payment, and returns its number: how many were begun before. Of the hints, edges from each node to the
+    /// next one, those out of the payer are left out. The metadata are those of the invoice (BOLT 11, `m`), and the
+    /// records are for the payee, by ascending types.
     ///
     /// The amount isn't 0, nor is the bound of parts. Custom records that can't be sent are refused by
     /// [`next_part`](Payer::next_part). An error changes nothing.
@@ -139,8 +139,8 @@ impl Payer {
         self.sent
     }
 
-    /// What was learnt of each edge is the fold of all that was told of parts and payments, stated by the contract; the call does
-    /// nothing.
+    /// What was learnt of each edge is the fold of all that was told of parts and payments, stated by the contract; the
+    /// call does nothing.
     pub fn learns_by_reports(&self)
         ensures { LearntIsReported }
     {

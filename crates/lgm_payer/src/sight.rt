@@ -13,11 +13,11 @@ pub struct Sight<'a> {
     pub view: &'a View,
     /// The payer's channels: edges out of it, each with what it can send now, as the node tells it.
     pub own: &'a [ExtraEdge],
-    /// How many parts they reckon: all parts of a lower number, whether they are under way or not. What later parts take is
-    /// deducted, so it does no harm if they are reckoned as well.
+    /// How many parts they reckon: all parts of a lower number, whether they are under way or not. What later parts
+    /// take is deducted, so it does no harm if they are reckoned as well.
     pub reckoned: u64,
-    /// What the payer prefers. By default it is worth 200 millionths of the payment's amount to it that a try doesn't fail, but a
-    /// hundredth of the amount up to 20 satoshis; and half a satoshi to save a hop.
+    /// What the payer prefers. By default it is worth 200 millionths of the payment's amount to it that a try doesn't
+    /// fail, but a hundredth of the amount up to 20 satoshis; and half a satoshi to save a hop.
     pub preferences: Option<Preferences>,
     /// What may be spent on a search.
     pub budget: SearchBudget,

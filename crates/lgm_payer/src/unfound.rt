@@ -22,7 +22,8 @@ pub enum Unfound {
     /// The payer's channels can send this much together, in msat, which is less than what is left: no parts can carry it.
     #[error("the channels can send {0} msat")]
     Short(u64),
-    /// The edges into the payee can carry this much together, in msat, which is less than what is left: no parts can carry it.
+    /// The edges into the payee can carry this much together, in msat, which is less than what is left: no parts can
+    /// carry it.
     #[error("the payee can get {0} msat")]
     PayeeShort(u64),
 }

@@ -97,11 +97,11 @@ impl Payer {
         Ok(())
     }
 
-    /// Notes that a part of a payment failed with a failure message, and learns what that teaches. With a failure of the terms of a
-    /// hop offer the update that came with it to the map first.
+    /// Notes that a part of a payment failed with a failure message, and learns what that teaches. With a failure of
+    /// the terms of a hop offer the update that came with it to the map first.
     ///
-    /// The part is under way, the place is on its route or is its payee's, and the node there may send such a code. An error changes
-    /// nothing.
+    /// The part is under way, the place is on its route or is its payee's, and the node there may send such a code. An
+    /// error changes nothing.
     pub fn failed(
         &mut self,
         alloc: Global,
@@ -117,8 +117,8 @@ impl Payer {
         self.end(alloc, payment, part, Ending::Failed(failure))
     }
 
-    /// Notes that a part of a payment failed, and that no failure message could be read: nobody knows which hop failed. The part is
-    /// under way. An error changes nothing.
+    /// Notes that a part of a payment failed, and that no failure message could be read: nobody knows which hop failed.
+    /// The part is under way. An error changes nothing.
     pub fn unreadable(&mut self, alloc: Global, payment: u64, part: u64) -> Result<(), PayerFault>
         ensures ended { OnOk result (IsEndedIn self.old self.new payment part endings.Unreadable) }
         ensures why { IfErr result
@@ -128,8 +128,8 @@ impl Payer {
         self.end(alloc, payment, part, Ending::Unreadable)
     }
 
-    /// Notes that the payee took the whole: all parts of the payment that are under way have arrived, and it is paid. What their edges
-    /// carried is gone from them for good.
+    /// Notes that the payee took the whole: all parts of the payment that are under way have arrived, and it is paid.
+    /// What their edges carried is gone from them for good.
     ///
     /// Something of it is under way, also if it was abandoned. An error changes nothing.
     pub fn fulfilled(&mut self, payment: u64) -> Result<(), PayerFault>
@@ -149,7 +149,8 @@ impl Payer {
         Ok(())
     }
 
-    /// Sends nothing more for a payment. What is under way is waited for. The payment isn't paid. An error changes nothing.
+    /// Sends nothing more for a payment. What is under way is waited for. The payment isn't paid. An error changes
+    /// nothing.
     pub fn abandon(&mut self, payment: u64) -> Result<(), PayerFault>
         ensures abandoned { OnOk result (IsAbandonedIn self.old self.new payment) }
         ensures why { IfErr result (IsRefused abandoning_fault self.old payment) }
@@ -165,8 +166,8 @@ impl Payer {
         Ok(())
     }
 
-    /// What was learnt of edges fades, since balances move: half of it is left for each half-life. Call it once an hour or so. The only
-    /// error is out of memory, which changes nothing.
+    /// What was learnt of edges fades, since balances move: half of it is left for each half-life. Call it once an hour
+    /// or so. The only error is out of memory, which changes nothing.
     pub fn fade(&mut self, alloc: Global, map: &Map, time: Elapsed) -> Result<(), AllocError>
         ensures faded { OnOk result (IsFadedIn map.now time self.old self.new) }
         ensures stays { OnErr result (self.new ≡ self.old) }
@@ -176,8 +177,8 @@ impl Payer {
         Ok(())
     }
 
-    /// Forgets a payment of which nothing is under way. What was learnt stays. If it was paid, the payer's channels have to reckon all
-    /// parts that were sent so far from now on. An error changes nothing.
+    /// Forgets a payment of which nothing is under way. What was learnt stays. If it was paid, the payer's channels
+    /// have to reckon all parts that were sent so far from now on. An error changes nothing.
     pub fn forget(&mut self, payment: u64) -> Result<(), PayerFault>
         ensures forgotten { OnOk result (IsForgottenIn self.old self.new payment) }
         ensures why { IfErr result (IsRefused forgetting_fault self.old payment) }

@@ -132,14 +132,14 @@ impl Payer {
         self.payments[place].choose(alloc, sight, &since, &busy, estimates)
     }
 
-    /// Sends the next part of a payment, beside all that is under way: it is under way from now on. None, if the payee took the whole,
-    /// or all of the amount is under way.
+    /// Sends the next part of a payment, beside all that is under way: it is under way from now on. None, if the payee
+    /// took the whole, or all of the amount is under way.
     ///
-    /// Where the payee takes several parts they are to be under way at once, since it holds them until all came: ask for the next one
-    /// until there is none.
+    /// Where the payee takes several parts they are to be under way at once, since it holds them until all came: ask
+    /// for the next one until there is none.
     ///
-    /// The part is what is left, or else its half, its quarter and so on: the first whose best route fails with odds of 3 to 1 or
-    /// less, or else the one that is expected to bring most. An error changes nothing.
+    /// The part is what is left, or else its half, its quarter and so on: the first whose best route fails with odds of
+    /// 3 to 1 or less, or else the one that is expected to bring most. An error changes nothing.
     pub fn next_part(
         &mut self,
         alloc: Global,

@@ -25,8 +25,8 @@ use lgm_store::Map;
 use std::alloc::{AllocError, Global};
 
 impl Payment {
-    /// Edges beside the map: the payer's channels, less what was sent over them since they were told, and the hints, less what is
-    /// under way over them.
+    /// Edges beside the map: the payer's channels, less what was sent over them since they were told, and the hints,
+    /// less what is under way over them.
     fn extra(
         &self,
         alloc: Global,
@@ -72,8 +72,8 @@ impl Payment {
         }
     }
 
-    /// What the next part is sent over, by what is believed of edges, and beside what was sent over the payer's channels since
-    /// they were told and what is under way.
+    /// What the next part is sent over, by what is believed of edges, and beside what was sent over the payer's
+    /// channels since they were told and what is under way.
     pub(crate) fn choose(
         &self,
         alloc: Global,

@@ -78,8 +78,8 @@ impl Payment {
         }
     }
 
-    /// What the next part is sent over: what is left, or else its half, its quarter and so on: the first with a likely route, or
-    /// else the one that is expected to bring most.
+    /// What the next part is sent over: what is left, or else its half, its quarter and so on: the first with a likely
+    /// route, or else the one that is expected to bring most.
     fn offer(&self, alloc: Global, outlook: &Outlook<'_>) -> Result<Offer, Unfound>
         requires beside { IsGraphOf outlook.now.map.now outlook.now.view.now }
         requires few { length outlook.now.view.now.points + 2 * length outlook.now.overlay.now.extra < 2 ^ 32 }
@@ -121,8 +121,8 @@ impl Payment {
         }
     }
 
-    /// The same, unless the payer's channels can't send what is left, or the edges into the payee can't carry it, in however many
-    /// parts.
+    /// The same, unless the payer's channels can't send what is left, or the edges into the payee can't carry it, in
+    /// however many parts.
     pub(crate) fn offer_or_short(
         &self,
         alloc: Global,

@@ -29,8 +29,8 @@ fn payments_that_cannot_begin(rt: HostRuntime) -> Result<(), Fail> {
     )
 }
 
-/// The route has three hops: node 9, the payer's, to 0, 1 and 3. Node 2 can't send `incorrect_or_unknown_payment_details`, nor the
-/// payee `temporary_channel_failure`.
+/// The route has three hops: node 9, the payer's, to 0, 1 and 3. Node 2 can't send
+/// `incorrect_or_unknown_payment_details`, nor the payee `temporary_channel_failure`.
 #[test]
 fn failures_that_are_refused(rt: HostRuntime) -> Result<(), Fail> {
     let steps = [

@@ -79,8 +79,8 @@ pub fn payer(alloc: Global, bounds: Bounds) -> Result<Box<Payer>, PayerFault> {
     Ok(payer)
 }
 
-/// The next part of a payment, at height 100, for a payer that would rather pay 1 msat than send over one more hop, and whose
-/// channel with node 0 can send this much, in msat, with so many parts reckoned.
+/// The next part of a payment, at height 100, for a payer that would rather pay 1 msat than send over one more hop, and
+/// whose channel with node 0 can send this much, in msat, with so many parts reckoned.
 pub fn next_part(
     rt: &impl Abort,
     alloc: Global,

@@ -49,8 +49,9 @@ fn a_balance_fails(rt: HostRuntime) -> Result<(), Fail> {
     Ok(())
 }
 
-/// Each way carries 600 msat, so the whole has no route. Half of it fails with odds of 500 to 101, but no smaller part is allowed.
-/// Then half of what is left has odds of 250 to 351, and so has the rest. The payee holds all three until they came.
+/// Each way carries 600 msat, so the whole has no route. Half of it fails with odds of 500 to 101, but no smaller part
+/// is allowed. Then half of what is left has odds of 250 to 351, and so has the rest. The payee holds all three until
+/// they came.
 #[test]
 fn the_amount_is_divided(rt: HostRuntime) -> Result<(), Fail> {
     let alloc = rt.alloc();
@@ -84,9 +85,9 @@ fn the_amount_is_divided(rt: HostRuntime) -> Result<(), Fail> {
     Ok(())
 }
 
-/// The payer's channel could send 2,020 msat before the first payment's part of 1,013: beside that it has 1,007 left, and of 2,000
-/// it has less than the amount. Once the part is reckoned it can send what is told, and once it has failed it can again. Nobody
-/// knows which hop failed, so the next one goes over node 2.
+/// The payer's channel could send 2,020 msat before the first payment's part of 1,013: beside that it has 1,007 left,
+/// and of 2,000 it has less than the amount. Once the part is reckoned it can send what is told, and once it has failed
+/// it can again. Nobody knows which hop failed, so the next one goes over node 2.
 #[test]
 fn nothing_is_promised_twice(rt: HostRuntime) -> Result<(), Fail> {
     let bounds = Bounds {
@@ -106,8 +107,8 @@ fn nothing_is_promised_twice(rt: HostRuntime) -> Result<(), Fail> {
     run_two_ways(&rt, rt.alloc(), bounds, &steps)
 }
 
-/// Once the payee took the whole its part is still deducted from what was told before; and a payment that is forgotten has to be
-/// reckoned.
+/// Once the payee took the whole its part is still deducted from what was told before; and a payment that is forgotten
+/// has to be reckoned.
 #[test]
 fn what_arrived_is_deducted(rt: HostRuntime) -> Result<(), Fail> {
     let bounds = Bounds {
@@ -175,8 +176,8 @@ fn hop(scid: u64, from: u16, to: u16) -> Hop {
     }
 }
 
-/// The hop after the payer's own carries from 999 to 1,200 msat: odds of 1 to 201. Of one of which nothing is known that carries up
-/// to 3,000 they are 1,000 to 2,001, and of one that carries less than the amount 100 to 1.
+/// The hop after the payer's own carries from 999 to 1,200 msat: odds of 1 to 201. Of one of which nothing is known
+/// that carries up to 3,000 they are 1,000 to 2,001, and of one that carries less than the amount 100 to 1.
 #[test]
 fn odds_of_a_route(rt: HostRuntime) -> Result<(), Fail> {
     let alloc = rt.alloc();

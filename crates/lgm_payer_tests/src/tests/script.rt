@@ -12,8 +12,8 @@ use std::test::Fail;
 pub enum Step {
     /// Begins a payment of 1,000 msat: its number.
     Begin(Bounds, Result<u64, PayerFault>),
-    /// Asks for the next part of a payment, where the payer's channel can send so much, in msat, with so many parts reckoned: its
-    /// number.
+    /// Asks for the next part of a payment, where the payer's channel can send so much, in msat, with so many parts
+    /// reckoned: its number.
     Next(u64, u64, u64, Result<Option<u64>, Unpaid>),
     /// A part of a payment fails by the node at a place, with a code.
     Failed(u64, u64, usize, u16, Result<(), PayerFault>),
