@@ -5,7 +5,8 @@ use crate::messages::{point, scid};
 use lgm_graph::{Estimates, ExtraEdge, Hop, Overlay, Route};
 use lgm_publish::{Eye, Guard};
 use lgm_route::{
-    Found, Preferences, Request, RouteFault, RouteLimits, Search, SearchBudget, SearchFault, find_over,
+    Found, Preferences, Request, RouteFault, RouteLimits, Search, SearchBudget, SearchFault,
+    find_over,
 };
 use std::alloc::{AllocError, Global};
 use std::fmt;
