@@ -33,7 +33,7 @@ faded time capacity estimate = record {
   penalty = kept time estimate.penalty;
 }
 
--- it says less than a sixteenth of the capacity, and nothing else
+-- it says at most a sixteenth of the capacity, and nothing else
 abbrev pub says_little : ℕ → Estimate → Bool
 says_little capacity estimate =
     nat_le (16 * estimate.least) capacity && nat_le (16 * (capacity - estimate.most)) capacity && estimate.penalty == 0

@@ -11,7 +11,7 @@ use std::alloc::{AllocError, Global};
 /// How much time went by.
 #[derive(Clone, Copy, Debug, PartialEq, Eq)]
 pub struct Elapsed {
-    /// After so much time half of what is believed is left, in the unit of the other: not 0.
+    /// After so much time half of what is believed is left, in the unit of the other; 0 counts as 1.
     pub half_life: u32,
     /// The time since what is believed faded last.
     pub elapsed: u32,
@@ -49,7 +49,7 @@ fn faded(time: Elapsed, capacity: u64, estimate: Estimate) -> Estimate
     }
 }
 
-/// Whether that says less than a sixteenth of the capacity, and nothing else.
+/// Whether that says at most a sixteenth of the capacity, and nothing else.
 fn says_little(capacity: u64, estimate: Estimate) -> bool
     ensures { result ≡ says_little capacity estimate }
 {
