@@ -7,6 +7,8 @@
 //!
 //! Rows are stored as the bytes of their messages: [`StoredChannel`], [`StoredUpdate`], [`StoredNode`]. Contracts see
 //! the same rows as if the fields were stored: each field is read from the bytes on access.
+//!
+//! Where an error is `AllocError`, memory ran out.
 #![tactic(auto)]
 
 mod evidence;

@@ -32,7 +32,6 @@ impl<const N: usize> Model for Raw<N> {
 }
 
 impl<const N: usize> Raw<N> {
-    /// A copy of bytes. The only error is out of memory.
     pub(crate) fn copied(alloc: Global, bytes: &[u8]) -> Result<Raw<N>, AllocError>
         ensures { IfOk result (λ raw. raw ≡ bytes.now) }
     {
@@ -43,7 +42,6 @@ impl<const N: usize> Raw<N> {
         Ok(Raw { storage })
     }
 
-    /// The bytes.
     #[inline(always)]
     pub(crate) fn as_slice(&self) -> &[u8]
         ensures { result.now ≡ self.now }

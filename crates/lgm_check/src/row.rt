@@ -159,7 +159,6 @@ impl<'a> Model for Signer<'a> {
 }
 
 impl<'a> Signer<'a> {
-    /// Borrows this point.
     pub(crate) fn new(point: &'a Point) -> Signer<'a>
         ensures { result ≡ point.now }
     {

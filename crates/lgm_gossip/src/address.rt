@@ -70,7 +70,7 @@ fn descriptor(alloc: Global, bytes: &[u8]) -> Result<(Address, &[u8]), DecodeFau
 }
 
 /// The addresses up to the first descriptor that is incomplete or of an unknown type: the longest list of addresses
-/// that the bytes begin with (BOLT 7, "The node_announcement Message"). The only error is out of memory.
+/// that the bytes begin with (BOLT 7, "The node_announcement Message").
 pub fn addresses(alloc: Global, bytes: &[u8]) -> Result<AddressList, AllocError>
     ensures { IfOk result (λ list. IsLongest list bytes.now) }
 {

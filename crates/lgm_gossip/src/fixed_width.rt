@@ -10,12 +10,10 @@ pub(crate) trait FixedWidth: Drop {
     /// The value that eight bytes encode.
     ghost value_of: { List ℕ → Self };
 
-    /// Decodes a value.
     fn from_bytes(bytes: &[u8; 8]) -> Self
         ensures { result ≡ value_of bytes.now };
 }
 
-/// The values of the chunks. The only error is out of memory.
 pub(crate) fn decode_all<T: FixedWidth>(
     alloc: Global,
     chunks: &[[u8; 8]],

@@ -3,6 +3,8 @@
 //! [`decode`] parses the bytes of one message, as received from a peer, into a [`Message`] or reports their first
 //! fault; [`encode`] writes one. Contracts say which bytes encode which message, field by field in the order of BOLT 7.
 //! [`addresses`] parses a node's addresses, and [`has_even_bit`] tests feature bits.
+//!
+//! Where an error is `AllocError`, memory ran out.
 #![tactic(auto)]
 
 mod address;

@@ -35,7 +35,6 @@ pub(crate) enum Segment<'a> {
     Pairs(&'a [Timestamps]),
 }
 
-/// The length of a BigSize encoding.
 pub(crate) fn bigsize_len(value: u64) -> usize
     ensures { result ≡ length (bigsize_bytes value) }
 {

@@ -52,7 +52,7 @@ impl<T> Sequence<T> {
 pub type Bytes = Sequence<u8>;
 
 impl Sequence<u8> {
-    /// Copies a slice. The only error is out of memory, which empty bytes never cause.
+    /// Copies a slice. Empty bytes take no memory.
     pub fn from_slice(alloc: Global, bytes: &[u8]) -> Result<Bytes, AllocError>
         ensures ok { IfOk result (λ copy. copy ≡ bytes.now) }
         ensures memory { OnErr result (0 < length bytes.now) }
@@ -63,7 +63,7 @@ impl Sequence<u8> {
         Ok(Sequence::from_vec(Vec::from_slice(alloc, bytes)?))
     }
 
-    /// Copies the bytes. The only error is out of memory, which empty bytes never cause.
+    /// Copies the bytes. Empty ones take no memory.
     pub fn copy(&self, alloc: Global) -> Result<Bytes, AllocError>
         ensures ok { IfOk result (λ copy. copy ≡ self.now) }
         ensures memory { OnErr result (0 < length self.now) }

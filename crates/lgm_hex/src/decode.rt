@@ -24,14 +24,6 @@ fn values_of(digits: u8x64) -> u8x64
     number.simd_min(u8x64::splat(10).saturating_add(letter))
 }
 
-/// Whether all are values of digits.
-#[inline(always)]
-fn are_valid(values: u8x64) -> bool
-    ensures { IsTrue result → AreValid values }
-{
-    values.simd_lt(u8x64::splat(16)).all()
-}
-
 /// The bytes of 32 pairs of values.
 #[inline(always)]
 fn joined(values: u8x64) -> u8x32
@@ -72,7 +64,7 @@ fn decode_blocks(digits: &[u8], out: &mut [u8]) -> bool
     for i in 0..(out.len() - 1) / 32 {
         seen |= decode_block(digits, out, 32 * i);
     }
-    are_valid(seen)
+    seen.simd_lt(u8x64::splat(16)).all()
 }
 
 /// Decodes the digits, two per byte of `out`, into `out`.

@@ -23,7 +23,7 @@ const ALL: u64 = 0b11111;
 /// another chain gets the end message alone, with `full_information` 0.
 ///
 /// Each id takes time logarithmic in the map. References to five messages for each id, and the point of each node sent,
-/// are allocated, whatever the messages' lengths. The only error is out of memory.
+/// are allocated, whatever the messages' lengths.
 pub fn answer_ids<'a>(
     alloc: Global,
     chain: &ChainHash,

@@ -5,6 +5,8 @@
 //! passes a [`Filter`], [`backlog`] collects it, and [`news`] returns what is new of it in a later map; if operations
 //! led from the earlier map to the later one, a [`MapDiff`] iterates over it without looking at the rest. All return
 //! whole messages as bytes, ready to be sent.
+//!
+//! Where an error is `AllocError`, memory ran out.
 #![tactic(auto)]
 
 mod backlog_iter;

@@ -45,7 +45,7 @@ impl<'a> Model for MapDiff<'a> {
 impl<'a> MapDiff<'a> {
     /// The differences from an earlier map to one made from it by operations that touched these keys.
     ///
-    /// Time is logarithmic in the maps for each touched key, whose messages are read. The only error is out of memory.
+    /// Time is logarithmic in the maps for each touched key, whose messages are read.
     pub fn between(
         alloc: Global,
         before: &'a Map,
@@ -70,8 +70,7 @@ impl<'a> MapDiff<'a> {
 
     /// The differences from an earlier map to a later one, whatever led from one to the other.
     ///
-    /// Time is that of the later map, with two searches for each of its rows, all of whose messages are read. The only error
-    /// is out of memory.
+    /// Time is that of the later map, with two searches for each of its rows, all of whose messages are read.
     pub fn of_maps(
         alloc: Global,
         before: &'a Map,
@@ -188,8 +187,8 @@ fn all_node_pairs<'a>(
 /// Messages are compared by their bytes. So a channel announcement is news once an update of the channel begins to
 /// pass, and a message that was removed and added again between the two maps isn't.
 ///
-/// Time is that of the later map, with two searches for each channel and node of which something passes, whose messages are
-/// read. The only error is out of memory.
+/// Time is that of the later map, with two searches for each channel and node of which something passes, whose messages
+/// are read.
 pub fn news<'a>(
     alloc: Global,
     before: &'a Map,

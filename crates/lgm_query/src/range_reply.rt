@@ -26,8 +26,7 @@ use std::alloc::{AllocError, Global};
 /// `sync_complete` 1. Bit 0 of the options requests the timestamps of the updates; checksums are never sent. A query of
 /// another chain gets one reply over the range, without ids.
 ///
-/// Time is logarithmic in the map and linear in the channels of the range; memory is linear in these. The only error is
-/// out of memory.
+/// Time is logarithmic in the map and linear in the channels of the range; memory is linear in these.
 pub fn answer_range<'a>(
     alloc: Global,
     chain: &ChainHash,
@@ -155,7 +154,7 @@ fn asks_for_timestamps(query: &RangeQuery) -> bool
 }
 
 /// The maximum number of ids in a reply.
-const MOST_IDS: usize = 4_000;
+const MAX_IDS: usize = 4_000;
 
 /// The end of a query's range, exclusive.
 pub(crate) fn range_end(query: &RangeQuery) -> u64
@@ -169,7 +168,7 @@ pub(crate) fn range_end(query: &RangeQuery) -> u64
 pub(crate) fn reply_count(ids: &[Scid]) -> usize
     ensures { result ≡ reply_count ids.now }
 {
-    ids.len().div_ceil(MOST_IDS).max(1)
+    ids.len().div_ceil(MAX_IDS).max(1)
 }
 
 pub(crate) fn is_last(ids: &[Scid], place: usize) -> bool
@@ -192,8 +191,8 @@ pub(crate) fn piece_at<T>(items: &[T], place: usize) -> &[T]
     requires { 4000 * place ≤ length items.now }
     ensures { result.now ≡ piece_at items.now place }
 {
-    let (_, rest) = items.split_at(place * MOST_IDS);
-    &rest[..rest.len().min(MOST_IDS)]
+    let (_, rest) = items.split_at(place * MAX_IDS);
+    &rest[..rest.len().min(MAX_IDS)]
 }
 
 /// The end of the reply at an index, a block height, exclusive.
@@ -207,7 +206,7 @@ fn reply_end(query: &RangeQuery, ids: &[Scid], place: usize) -> u64
     if is_last(ids, place) {
         return range_end;
     }
-    u64::from(next_block(ids[place * MOST_IDS + MOST_IDS - 1]))
+    u64::from(next_block(ids[place * MAX_IDS + MAX_IDS - 1]))
 }
 
 /// The first block of the reply at an index.
@@ -218,8 +217,8 @@ pub(crate) fn reply_start(query: &RangeQuery, ids: &[Scid], place: usize) -> u32
     if place == 0 {
         return query.first_blocknum;
     }
-    let last_before = ids[place * MOST_IDS - 1];
-    let first = ids[place * MOST_IDS];
+    let last_before = ids[place * MAX_IDS - 1];
+    let first = ids[place * MAX_IDS];
     if first.block() == last_before.block() {
         first.block()
     } else {
@@ -245,7 +244,7 @@ fn next_block(scid: Scid) -> u32
     (scid.to_u64() >> 40) as u32 + 1
 }
 
-/// Encodes a message that isn't too long. The only error is out of memory.
+/// Encodes a message that isn't too long.
 pub(crate) fn encoded(alloc: Global, message: &Message) -> Result<Bytes, AllocError>
     requires { length (spelling message.now) ≤ 65535 }
     ensures { IfOk result (λ bytes. bytes ≡ spelling message.now) }

@@ -102,7 +102,7 @@ impl<'a> Replies<'a> {
     }
 }
 
-/// The messages of a [`Backlog`], borrowed from the map. The only error is out of memory.
+/// The messages of a [`Backlog`], borrowed from the map.
 pub fn backlog<'a>(alloc: Global, map: &'a Map, filter: &Filter) -> Result<Replies<'a>, AllocError>
     ensures { IfOk result (λ replies. replies ≡ backlog map.now filter.now) }
 {

@@ -35,8 +35,7 @@ impl<'a> Model for ReplyBuilder<'a> {
 }
 
 impl<'a> ReplyBuilder<'a> {
-    /// No messages, with room for those of this many channels, and for as many nodes, which are hashed by the seed. The only
-    /// error is out of memory.
+    /// No messages, with room for those of this many channels, and for as many nodes, which are hashed by the seed.
     pub(crate) fn with_room(
         alloc: Global,
         channels: usize,
@@ -58,7 +57,7 @@ impl<'a> ReplyBuilder<'a> {
         messages
     }
 
-    /// Adds the messages of a channel that the flags select, if it is in the map. The only error is out of memory.
+    /// Adds the messages of a channel that the flags select, if it is in the map.
     pub(crate) fn send_chosen(
         &mut self,
         map: &'a Map,

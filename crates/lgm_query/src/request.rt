@@ -115,7 +115,7 @@ pub fn read_filter(alloc: Global, chain: &ChainHash, bytes: &[u8]) -> Result<Fil
 }
 
 impl Query {
-    /// The replies to a query from a map of a chain. The only error is out of memory.
+    /// The replies to a query from a map of a chain.
     pub fn answer<'a>(
         &self,
         alloc: Global,

@@ -37,7 +37,7 @@ impl TouchedKeys {
         }
     }
 
-    /// Adds the keys of another operation. The only error is out of memory, which leaves them unchanged.
+    /// Adds the keys of another operation. Out of memory leaves them unchanged.
     pub fn touch(&mut self, op: &Op) -> Result<(), AllocError>
         ensures ok { OnOk result ((history : List Op) → HasTouched history self.old
             → HasTouched (history ++ op.now ∷ []) self.new) }

@@ -89,7 +89,7 @@ impl Banned {
         inserted
     }
 
-    /// A copy. The only error is out of memory.
+    /// A copy.
     pub(crate) fn copy(&self) -> Result<Banned, AllocError>
         ensures points { IfOk result (λ copy. copy ≡ self.now) }
         ensures ascend { IfOk result (λ copy. IsStrictlySortedBy by_point copy) }

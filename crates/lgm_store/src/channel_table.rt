@@ -168,7 +168,7 @@ impl SlotTable<Scid, ChannelInfo> {
         stored.offer_update(row, signer)
     }
 
-    /// A copy, without vacant slots if most are vacant. The only error is out of memory.
+    /// A copy, without vacant slots if most are vacant.
     pub(crate) fn copy(&self, alloc: Global) -> Result<ChannelTable, AllocError>
         ensures { IfOk result (λ copy. copy ≡ self.now) }
     {

@@ -86,7 +86,7 @@ impl ChannelsByNode {
         }
     }
 
-    /// Appends the ids of a point's channels, ascending. The only error is out of memory.
+    /// Appends the ids of a point's channels, ascending.
     pub(crate) fn gather(&self, point: &Point, scids: &mut Vec<Scid>) -> Result<(), AllocError>
         ensures { OnOk result (scids.new.items ≡ scids.old.items ++ list_at self.now point.now) }
     {
@@ -125,7 +125,7 @@ impl ChannelsByNode {
         }
     }
 
-    /// A copy, with the room of its points if most of the room is vacant. The only error is out of memory.
+    /// A copy, with the room of its points if most of the room is vacant.
     pub(crate) fn copy(&self) -> Result<ChannelsByNode, AllocError>
         ensures { IfOk result (λ copy. copy ≡ self.now) }
     {

@@ -45,7 +45,7 @@ impl Model for CheckedMessage {
 }
 
 impl CheckedMessage {
-    /// Stores the row of a checked message, whose bytes have to encode it. The only error is out of memory.
+    /// Stores the row of a checked message, whose bytes have to encode it.
     pub(crate) fn of(alloc: Global, checked: &Checked) -> Result<CheckedMessage, AllocError>
         requires { IsSpelled checked.now }
         ensures { IfOk result (λ made. made ≡ checked.now) }
@@ -80,13 +80,17 @@ impl CheckedMessage {
     {
         let checked = precheck_kind(alloc, chain, bytes, evidence)?;
         Ok(CheckedMessage {
-            stored: keep(alloc, bytes, checked)?,
+            stored: copy_row(alloc, bytes, checked)?,
         })
     }
 }
 
-/// The stored row: a copy of the bytes, with the capacity of a channel.
-fn keep(alloc: Global, bytes: &[u8], checked: CheckedKind<'_>) -> Result<StoredMessage, AllocError>
+/// The row to be stored: a copy of the bytes, with the capacity of a channel.
+fn copy_row(
+    alloc: Global,
+    bytes: &[u8],
+    checked: CheckedKind<'_>,
+) -> Result<StoredMessage, AllocError>
     requires { Fits checked bytes.now }
     ensures { IfOk result (λ stored. message_of stored ≡ row_of checked.entry bytes.now) }
 {

@@ -7,6 +7,8 @@
 //! and all their channels are removed. BOLT 7 requires that if both name the same transaction in the same block; a
 //! channel id identifies these by position. After a reorganisation another transaction may have that position: close
 //! the channel before its id is announced again, or its nodes are banned. A ban lasts as long as the map.
+//!
+//! Where an error is `AllocError`, memory ran out.
 #![tactic(auto)]
 
 mod banned;

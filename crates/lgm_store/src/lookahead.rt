@@ -66,7 +66,7 @@ impl Lookahead {
         }
     }
 
-    /// Adds a message, whose turn comes after those before it. The only error is out of memory.
+    /// Adds a message, whose turn comes after those before it.
     pub fn add(&mut self, message: &CheckedMessage) -> Result<(), AllocError> {
         match &message.stored {
             StoredMessage::Channel(row) => self

@@ -107,7 +107,7 @@ impl SlotTable<Point, Shared<StoredNode>> {
         Ok(true)
     }
 
-    /// A copy, without vacant slots if most are vacant. The only error is out of memory.
+    /// A copy, without vacant slots if most are vacant.
     pub(crate) fn copy(&self, alloc: Global) -> Result<NodeTable, AllocError>
         ensures { IfOk result (λ copy. copy ≡ self.now) }
     {

@@ -96,7 +96,7 @@ impl ScidSet {
         }
     }
 
-    /// Appends the ids to a vector, ascending. The only error is out of memory.
+    /// Appends the ids to a vector, ascending.
     pub(crate) fn gather(&self, alloc: Global, scids: &mut Vec<Scid>) -> Result<(), AllocError>
         ensures { OnOk result (scids.new.items ≡ scids.old.items ++ self.now) }
     {

@@ -51,7 +51,7 @@ impl Seed {
     }
 
     /// A seed of the system's random bytes, which nobody knows; the seed of zeros if the system has none.
-    pub fn random<R: RandomSource>(rt: &R) -> Seed {
+    pub fn random<Rt: RandomSource>(rt: &Rt) -> Seed {
         let mut bytes = [0; 16];
         match rt.fill_bytes(&mut bytes) {
             Ok(()) => Seed::new(bytes),

@@ -23,7 +23,7 @@ impl<T> Model for Shared<T> {
 }
 
 impl<T: Drop> Shared<T> {
-    /// The value, with one owner so far. The only error is out of memory.
+    /// The value, with one owner so far.
     pub fn new(alloc: Global, value: T) -> Result<Shared<T>, AllocError>
         ensures { IfOk result (λ shared. shared ≡ value) }
     {

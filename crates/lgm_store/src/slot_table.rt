@@ -30,7 +30,7 @@ pub(crate) trait Keyed<K>: Drop {
     fn key(&self) -> K
         ensures { result ≡ key_of self.now };
 
-    /// A copy. The only error is out of memory.
+    /// A copy.
     fn copied(&self) -> Result<Self, AllocError>
         ensures { IfOk result (λ copy. copy ≡ self.now) };
 }
@@ -127,7 +127,7 @@ impl<K: Key, V: Keyed<K>> SlotTable<K, V> {
         Ok(copy)
     }
 
-    /// Adds a value whose key is above all others. The only error is out of memory.
+    /// Adds a value whose key is above all others.
     fn append(&mut self, value: V) -> Result<(), AllocError>
         requires { AllByRecursion (λ key. K.cmp (V.key_of value) key ≡ Greater) (keys_of self.old) }
         ensures { OnOk result (self.new ≡ self.old ++ (V.key_of value, value) ∷ []) }

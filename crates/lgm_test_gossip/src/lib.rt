@@ -12,8 +12,10 @@ mod node;
 mod numbers;
 pub mod ops;
 mod points;
+mod rows;
 mod terms;
 mod update;
+mod views;
 mod writing;
 
 pub use channel::Channel;
@@ -21,6 +23,8 @@ pub use maps::{Item, Way, charging, empty_map, free, items_of, map_of, row, up_t
 pub use node::Node;
 pub use numbers::Numbers;
 pub use points::{point, repeated_point};
+pub use rows::have_same_rows;
 pub use terms::{FREE, Terms};
 pub use update::Update;
+pub use views::is_as_made;
 pub use writing::{CHAIN, written};

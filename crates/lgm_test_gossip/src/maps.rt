@@ -74,7 +74,6 @@ fn flags(way: &Way, disabled: u8) -> u8 {
     }
 }
 
-/// Adds an item to a map.
 fn absorb(alloc: Global, map: &mut Map, item: &Item) -> Result<(), AllocError> {
     let op = match item {
         Item::Channel(id, first, second) => {

@@ -81,7 +81,6 @@ fn byte(text: Option<&str>) -> u8 {
     u8::try_from(number(text)).unwrap_or(0)
 }
 
-/// A channel's id.
 fn scid(text: Option<&str>) -> Scid {
     let mut numbers = text.unwrap_or("").split('x');
     let block = number(numbers.next());
@@ -102,7 +101,6 @@ fn given<'a>(inside: &'a str, name: &str) -> Option<&'a str> {
     None
 }
 
-/// The features of a message.
 fn features(alloc: Global, inside: &str) -> Result<Vec<u8>, AllocError> {
     match hex::decode(alloc, given(inside, "features").unwrap_or("")) {
         Ok(features) => Ok(features),

@@ -149,8 +149,7 @@ fn drop_unless_ended(nodes: &mut NodeTable, ends: &ChannelsByNode, node: &Point)
 }
 
 impl Map {
-    /// A copy with the same rows, which are shared. It takes the room of these rows, however many the map once had. The only
-    /// error is out of memory.
+    /// A copy with the same rows, which are shared. It takes the room of these rows, however many the map once had.
     pub fn copy(&self, alloc: Global) -> Result<Map, AllocError>
         ensures { IfOk result (λ copy. copy ≡ self.now) }
     {
@@ -169,8 +168,7 @@ impl Map {
 }
 
 impl Map {
-    /// The map that a history leaves: its operations, applied one by one to an empty map. The only error is out of
-    /// memory.
+    /// The map that a history leaves: its operations, applied one by one to an empty map.
     ///
     /// If points come from strangers, create the map by [`Map::with_seed`] and let it absorb the operations.
     pub fn replay(alloc: Global, history: &[Op]) -> Result<Map, AllocError>

@@ -96,7 +96,7 @@ impl Map {
         self.parts.ends.contains(node)
     }
 
-    /// The ids of a node's channels, ascending. Only these are visited. The only error is out of memory.
+    /// The ids of a node's channels, ascending. Only these are visited.
     pub fn ids_at(&self, alloc: Global, node: &Point) -> Result<Scids, AllocError>
         ensures { IfOk result (λ ids. ids ≡ ids_at self.now.channels node.now) }
     {
@@ -184,7 +184,7 @@ impl Map {
     }
 
     /// The ids of the channels funded in the blocks from `from` up to but excluding `to`, ascending. Only these are
-    /// visited. The only error is out of memory.
+    /// visited.
     pub fn ids_between(&self, alloc: Global, from: u64, to: u64) -> Result<Scids, AllocError>
         ensures { IfOk result (λ ids. ids ≡ ids_between_of self.now.channels from to) }
     {

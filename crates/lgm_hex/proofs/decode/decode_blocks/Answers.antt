@@ -1,6 +1,6 @@
 use Rattle.std.proofs.Common.{◌*◌, arith, inl, inr}
 use Rattle.std.proofs.lemmas.Bool.{cases_lt}
-use Rattle.lgm_hex.proofs.Decoded.{both_valid, all_decoded}
+use Rattle.lgm_hex.proofs.Decoded.{all_small, both_valid, all_decoded}
 use Rattle.lgm_hex.proofs.decode.decode_blocks.Goals as goal
 
 pub loop-i-init : goal.loop-i-init
@@ -20,7 +20,7 @@ loop-i-preserved c valid k h within =
 
 pub returns : goal.returns
 returns c good =
-    let valid = c.are_valid.ensures good in
+    let valid = all_small c.loop-i.seen c.loop-i.auto.seen.0 good in
     all_decoded c.args.digits.now c.loop-i.out (omega arith) (λ k within. elim (cases_lt k (32 * c.loop-i.i)) [
       | inl below ↦ c.loop-i.invariant valid k (inl below) within
       | inr above ↦ c.loop-i.invariant valid k (inr (omega (arith, above, within))) within

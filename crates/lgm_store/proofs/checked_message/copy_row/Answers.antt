@@ -3,7 +3,7 @@ use Rattle.std.proofs.lemmas.Result.{err_from_is_err_and}
 use Rattle.lgm_check.specs.declared.row.Checked.TheVariants.{Update}
 use Rattle.lgm_check.specs.Row.{update_row}
 use Rattle.lgm_check.specs.CheckedKind.{row_of}
-use Rattle.lgm_store.proofs.checked_message.keep.Goals as goal
+use Rattle.lgm_store.proofs.checked_message.copy_row.Goals as goal
 
 pub returns-in_err-new-in-Update : goal.returns-in_err-new-in-Update
 returns-in_err-new-in-Update c =

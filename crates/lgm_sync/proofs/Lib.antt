@@ -1,0 +1,4 @@
+pub mod CoverLaws
+pub mod SignedLaws
+pub mod SyncLaws
+pub mod AnswerLaws
