@@ -1,5 +1,5 @@
 -- The bits of a filter of edges.
-use Rattle.std.proofs.Common.{◌≡◌, ◌≢◌, ◌⊎◌, inl, inr, ◌∙◌, ℕ, ◌-◌, ◌*◌, ◌/◌, ◌%◌, ◌^◌, ◌<◌, List, length, get_or, set}
+use Rattle.std.proofs.Common.{◌≡◌, ◌≢◌, ◌⊎◌, inl, inr, ◌∙◌, ℕ, ◌*◌, ◌/◌, ◌%◌, ◌^◌, ◌<◌, List, length, get_or, set}
 use Rattle.std.proofs.Common.{Bool, true, false, ◌&&◌, None, bit_or, refl, sym, ap, arith, true≢false, mod-eq_of_lt}
 use Rattle.std.specs.Prelude.{eqb, ◌==◌}
 use Rattle.std.specs.Int.{bit_at}
@@ -63,7 +63,7 @@ both true b same = (refl, same)
 both false b same = absurd cc
 
 -- a key is that of its id and node alone
-key_is : (id : ℕ) (from : Point) (key : EdgeKey) → is_key id from key ≡ true → (id ≡ key.scid) × (from ≡ key.from)
+pub key_is : (id : ℕ) (from : Point) (key : EdgeKey) → is_key id from key ≡ true → (id ≡ key.scid) × (from ≡ key.from)
 key_is id from key same =
     let each = both (id == key.scid) (is_point from key.from) same in
     (eqb-true id key.scid each.0, same_point from key.from each.1)

@@ -29,8 +29,8 @@ mod ByNumber
 mod LentLists
 pub mod PlaceLaws
 mod TouchedNodeLaws
-mod SayingLaws
-mod Laid
+mod OverrideLaws
+mod Overlaid
 mod OverlayViewLaws
-mod EstimateLaws
+pub mod EstimateLaws
 mod FilterLaws

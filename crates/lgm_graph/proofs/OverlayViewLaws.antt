@@ -20,15 +20,15 @@ use Rattle.lgm_graph.specs.declared.edge.Edge.{Edge}
 use Rattle.lgm_graph.specs.Edges.{PointEdge, carrying, takes_payments}
 use Rattle.lgm_graph.specs.Graph.{Graph, GraphNode, Shows, IsGraphOf, IsJoined, IsNumbered, bare_node, node_at, node_with, number_of, numbered_in, edges_leaving, edges_with, point_edges}
 use Rattle.lgm_graph.specs.Overlay.{OverlayParts, is_used, firsts, limited, overlaid_edges}
-use Rattle.lgm_graph.specs.inner.Overlaying.{Said, Touched, ArePlaced, IsTouchedMore, AreReached, LeadsTo, AreSaid, IsSaid, sayings_of}
-use Rattle.lgm_graph.specs.Places.{at_place}
-use Rattle.lgm_graph.specs.inner.Overlaying.{nothing_of, place_of, said_of, laid_at, laid_by, laid_list, list_or, graph_over, node_over, extra_over}
+use Rattle.lgm_graph.specs.inner.Overlaying.{NodeOverrides, Touched, ArePlaced, IsTouchedMore, AreReached, LeadsTo, AreApplied, IsOverriddenAt, overrides_of}
+use Rattle.lgm_graph.specs.Places.{at_place, place_of}
+use Rattle.lgm_graph.specs.inner.Overlaying.{nothing_of, overrides_at, overlaid_at, overlaid_by, overlaid_list, list_or, graph_over, node_over, extra_over}
 use Rattle.lgm_graph.specs.inner.Sound.{IsSound}
 use Rattle.lgm_graph.proofs.ChangeLaws.{node_is}
 use Rattle.lgm_graph.proofs.NewNumberLaws.{number_at}
 use Rattle.lgm_graph.proofs.ByNumber.{by_is}
 use Rattle.lgm_graph.proofs.Further.{slice_left, slice_right}
-use Rattle.lgm_graph.proofs.Laid.{laid_edges, joined_limited, joined_firsts, joined_left, base_at, behind}
+use Rattle.lgm_graph.proofs.Overlaid.{laid_edges, joined_limited, joined_firsts, joined_left, base_at, behind}
 use Rattle.lgm_graph.proofs.NodeListLaws.{edge_into, edge_out, out_there}
 use Rattle.lgm_graph.proofs.PushedEdgeLaws.{found_passes}
 use Rattle.lgm_graph.proofs.Members.{Among, Contains-Among}
@@ -53,20 +53,20 @@ slice_take (x ∷ xs) (suc n) (suc k) lt = slice_take xs n k (omega (arith, lt))
 module _ (graph : Graph) (accepts : Point → Bool) (edges : List PointEdge) (distinct : IsDistinct is_point graph.points)
     (shows : Shows accepts edges graph.points graph.nodes) (first last : Touched) (placed : ArePlaced last) (more : IsTouchedMore first last)
     (reached : AreReached graph last (length first.nodes)) where
-  -- what is said of a node beyond the first is nothing
-  said_bare : (n : ℕ) (k : ℕ) (said : Said) → slice_get last.nodes k ≡ Some said → said.node ≡ n → length first.nodes ≤ k
-      → said ≡ nothing_of n
-  said_bare n k said at node le =
-      more.bare (k - length first.nodes) said (sym (slice_right first.nodes more.more k le) ∙ ap (λ l. slice_get l k) (sym more.nodes) ∙ at)
+  -- the overrides of a node beyond the first is nothing
+  said_bare : (n : ℕ) (k : ℕ) (local : NodeOverrides) → slice_get last.nodes k ≡ Some local → local.node ≡ n → length first.nodes ≤ k
+      → local ≡ nothing_of n
+  said_bare n k local at node le =
+      more.bare (k - length first.nodes) local (sym (slice_right first.nodes more.more k le) ∙ ap (λ l. slice_get l k) (sym more.nodes) ∙ at)
       ∙ ap nothing_of node
 
-  said_at : (n k : ℕ) (said : Said) → place_of last n ≡ suc k → slice_get last.nodes k ≡ Some said → said_of last n ≡ said
-  said_at n k said there at =
-      ap (λ j. unwrap_or (at_place last.nodes j) (nothing_of n)) there ∙ ap (λ (o : Option Said). unwrap_or o (nothing_of n)) at
+  said_at : (n k : ℕ) (local : NodeOverrides) → place_of last n ≡ suc k → slice_get last.nodes k ≡ Some local → overrides_at last n ≡ local
+  said_at n k local there at =
+      ap (λ j. unwrap_or (at_place last.nodes j) (nothing_of n)) there ∙ ap (λ (o : Option NodeOverrides). unwrap_or o (nothing_of n)) at
 
-  -- an edge out of a node of which nothing is said stays
-  bare_stays : (edge : Edge) → said_of last edge.from ≡ nothing_of edge.from → laid_by last edge ≡ Some edge
-  bare_stays edge bare = ap (λ said. laid_at said edge) bare
+  -- an edge out of a node without overrides stays
+  bare_stays : (edge : Edge) → overrides_at last edge.from ≡ nothing_of edge.from → overlaid_by last edge ≡ Some edge
+  bare_stays edge bare = ap (λ local. overlaid_at local edge) bare
 
   -- an edge stays, or leads to a node that is touched
   stays_or : (edge : Edge) → Among (edges_leaving graph edge.from) edge → LeadsTo last edge
@@ -76,7 +76,7 @@ module _ (graph : Graph) (accepts : Point → Bool) (edges : List PointEdge) (di
       by zero is = inl (bare_stays edge (ap (λ j. unwrap_or (at_place last.nodes j) (nothing_of edge.from)) is))
       by (suc k) is = which (placed.own edge.from k is) (ltb k (length first.nodes)) refl
         where
-          which : (own : (said : Said) × (slice_get last.nodes k ≡ Some said) × (said.node ≡ edge.from))
+          which : (own : (local : NodeOverrides) × (slice_get last.nodes k ≡ Some local) × (local.node ≡ edge.from))
               → (b : Bool) → ltb k (length first.nodes) ≡ b → LeadsTo last edge
           which own true e =
               reached k (ltb-true k (length first.nodes) e) own.0 own.1 edge
@@ -99,61 +99,61 @@ module _ (graph : Graph) (accepts : Point → Bool) (edges : List PointEdge) (di
       ap (λ (e : Edge). e.from) (sym made.2) ∙ made.3
 
   module _ (into out : List (List Edge))
-      (into_is : into ≡ map (λ said. laid_list last (node_at graph said.node).into said.entering) last.nodes)
-      (out_is : out ≡ map (λ said. laid_list last (node_at graph said.node).out said.leaving) (take (length first.nodes) last.nodes)) where
+      (into_is : into ≡ map (λ local. overlaid_list last (node_at graph local.node).into local.entering) last.nodes)
+      (out_is : out ≡ map (λ local. overlaid_list last (node_at graph local.node).out local.leaving) (take (length first.nodes) last.nodes)) where
     pub into_at : (n : ℕ) → list_or into (place_of last n) (node_at graph n).into
-        ≡ laid_list last (node_at graph n).into (said_of last n).entering
+        ≡ overlaid_list last (node_at graph n).into (overrides_at last n).entering
     into_at n = by (place_of last n) refl
       where
         by : (place : ℕ) → place_of last n ≡ place
-            → list_or into (place_of last n) (node_at graph n).into ≡ laid_list last (node_at graph n).into (said_of last n).entering
+            → list_or into (place_of last n) (node_at graph n).into ≡ overlaid_list last (node_at graph n).into (overrides_at last n).entering
         by zero is =
-            let bare : said_of last n ≡ nothing_of n = ap (λ j. unwrap_or (at_place last.nodes j) (nothing_of n)) is in
-            rw (bare, is) (sym (unchanged (laid_by last) (node_at graph n).into stays))
+            let bare : overrides_at last n ≡ nothing_of n = ap (λ j. unwrap_or (at_place last.nodes j) (nothing_of n)) is in
+            rw (bare, is) (sym (unchanged (overlaid_by last) (node_at graph n).into stays))
           where
-            stays : (edge : Edge) → Among (node_at graph n).into edge → laid_by last edge ≡ Some edge
+            stays : (edge : Edge) → Among (node_at graph n).into edge → overlaid_by last edge ≡ Some edge
             stays edge there = which (stays_or edge (into_leads n edge there).1)
               where
-                which : LeadsTo last edge → laid_by last edge ≡ Some edge
+                which : LeadsTo last edge → overlaid_by last edge ≡ Some edge
                 which (inl same) = same
                 which (inr touched) = absurd (touched (ap (place_of last) (into_leads n edge there).0 ∙ is))
         by (suc k) is =
             let own = placed.own n k is in
-            let read : slice_get into k ≡ Some (laid_list last (node_at graph own.0.node).into own.0.entering) =
+            let read : slice_get into k ≡ Some (overlaid_list last (node_at graph own.0.node).into own.0.entering) =
             ap (λ l. slice_get l k) into_is ∙ slice_get-map _ last.nodes k ∙ ap (option_map _) own.1 in
             ap (λ p. list_or into p (node_at graph n).into) is ∙ ap (λ o. unwrap_or o (node_at graph n).into) read
-            ∙ ap (λ m. laid_list last (node_at graph m).into own.0.entering) own.2
-            ∙ ap (λ (s : Said). laid_list last (node_at graph n).into s.entering) (sym (said_at n k own.0 is own.1))
+            ∙ ap (λ m. overlaid_list last (node_at graph m).into own.0.entering) own.2
+            ∙ ap (λ (s : NodeOverrides). overlaid_list last (node_at graph n).into s.entering) (sym (said_at n k own.0 is own.1))
 
     pub out_at : (n : ℕ) → list_or out (place_of last n) (node_at graph n).out
-        ≡ laid_list last (node_at graph n).out (said_of last n).leaving
+        ≡ overlaid_list last (node_at graph n).out (overrides_at last n).leaving
     out_at n = by (place_of last n) refl
       where
-        -- the list of a node of which nothing is said
-        lent : said_of last n ≡ nothing_of n → (node_at graph n).out ≡ laid_list last (node_at graph n).out (said_of last n).leaving
+        -- the list of a node without overrides
+        lent : overrides_at last n ≡ nothing_of n → (node_at graph n).out ≡ overlaid_list last (node_at graph n).out (overrides_at last n).leaving
         lent bare =
-            rw bare (sym (unchanged (laid_by last) (node_at graph n).out (λ edge there.
-            bare_stays edge (let from = out_leads n edge there in ap (said_of last) from ∙ bare ∙ ap nothing_of (sym from)))))
+            rw bare (sym (unchanged (overlaid_by last) (node_at graph n).out (λ edge there.
+            bare_stays edge (let from = out_leads n edge there in ap (overrides_at last) from ∙ bare ∙ ap nothing_of (sym from)))))
 
         by : (place : ℕ) → place_of last n ≡ place
-            → list_or out (place_of last n) (node_at graph n).out ≡ laid_list last (node_at graph n).out (said_of last n).leaving
+            → list_or out (place_of last n) (node_at graph n).out ≡ overlaid_list last (node_at graph n).out (overrides_at last n).leaving
         by zero is =
             ap (λ p. list_or out p (node_at graph n).out) is
             ∙ lent (ap (λ j. unwrap_or (at_place last.nodes j) (nothing_of n)) is)
         by (suc k) is = which (placed.own n k is) (ltb k (length first.nodes)) refl
           where
-            which : (own : (said : Said) × (slice_get last.nodes k ≡ Some said) × (said.node ≡ n)) → (b : Bool) → ltb k (length first.nodes) ≡ b
-                → list_or out (place_of last n) (node_at graph n).out ≡ laid_list last (node_at graph n).out (said_of last n).leaving
+            which : (own : (local : NodeOverrides) × (slice_get last.nodes k ≡ Some local) × (local.node ≡ n)) → (b : Bool) → ltb k (length first.nodes) ≡ b
+                → list_or out (place_of last n) (node_at graph n).out ≡ overlaid_list last (node_at graph n).out (overrides_at last n).leaving
             which own true e =
-                let read : slice_get out k ≡ Some (laid_list last (node_at graph own.0.node).out own.0.leaving) =
+                let read : slice_get out k ≡ Some (overlaid_list last (node_at graph own.0.node).out own.0.leaving) =
                 ap (λ l. slice_get l k) out_is ∙ slice_get-map _ (take (length first.nodes) last.nodes) k
                 ∙ ap (option_map _) (slice_take last.nodes (length first.nodes) k (ltb-true k (length first.nodes) e) ∙ own.1) in
                 ap (λ p. list_or out p (node_at graph n).out) is ∙ ap (λ o. unwrap_or o (node_at graph n).out) read
-                ∙ ap (λ m. laid_list last (node_at graph m).out own.0.leaving) own.2
-                ∙ ap (λ (s : Said). laid_list last (node_at graph n).out s.leaving) (sym (said_at n k own.0 is own.1))
+                ∙ ap (λ m. overlaid_list last (node_at graph m).out own.0.leaving) own.2
+                ∙ ap (λ (s : NodeOverrides). overlaid_list last (node_at graph n).out s.leaving) (sym (said_at n k own.0 is own.1))
             which own false e =
                 let le = ltb-false k (length first.nodes) e in
-                let past : slice_get out k ≡ None = slice_get_past out k (omega (arith, le, ap length out_is, length-map (take (length first.nodes) last.nodes) (λ said. laid_list last (node_at graph said.node).out said.leaving), length-take (length first.nodes) last.nodes)) in
+                let past : slice_get out k ≡ None = slice_get_past out k (omega (arith, le, ap length out_is, length-map (take (length first.nodes) last.nodes) (λ local. overlaid_list last (node_at graph local.node).out local.leaving), length-take (length first.nodes) last.nodes)) in
                 ap (λ p. list_or out p (node_at graph n).out) is ∙ ap (λ o. unwrap_or o (node_at graph n).out) past
                 ∙ lent (said_at n k own.0 is own.1 ∙ said_bare n k own.0 own.1 own.2 le)
 
@@ -165,15 +165,15 @@ laid_before overlay edges = extra_over overlay ++ map (limited overlay.limits) (
 
 module _ (overlay : OverlayParts) (graph : Graph) (added : List Point) (distinct : IsDistinct is_point (graph.points ++ added))
     (own : IsDistinct is_point graph.points) (joined : AllByRecursion (IsJoined (graph.points ++ added)) overlay.extra)
-    (first last : Touched) (placed : ArePlaced last) (more : IsTouchedMore first last) (said : AreSaid (sayings_of overlay) (graph.points ++ added) first)
+    (first last : Touched) (placed : ArePlaced last) (more : IsTouchedMore first last) (local : AreApplied (overrides_of overlay) (graph.points ++ added) first)
     (reached : AreReached graph last (length first.nodes)) (into out : List (List Edge))
-    (into_is : into ≡ map (λ said. laid_list last (node_at graph said.node).into said.entering) last.nodes)
-    (out_is : out ≡ map (λ said. laid_list last (node_at graph said.node).out said.leaving) (take (length first.nodes) last.nodes)) where
+    (into_is : into ≡ map (λ local. overlaid_list last (node_at graph local.node).into local.entering) last.nodes)
+    (out_is : out ≡ map (λ local. overlaid_list last (node_at graph local.node).out local.leaving) (take (length first.nodes) last.nodes)) where
   abbrev points : List Point
   points = graph.points ++ added
 
-  said_last : AreSaid (sayings_of overlay) points last
-  said_last n p at = subst (IsSaid (sayings_of overlay) points p) (sym (more.same n)) (said n p at)
+  said_last : AreApplied (overrides_of overlay) points last
+  said_last n p at = subst (IsOverriddenAt (overrides_of overlay) points p) (sym (more.same n)) (local n p at)
 
   module _ (accepts : Point → Bool) (edges : List PointEdge) (shows : Shows accepts edges graph.points graph.nodes) where
     extra_joined : AllByRecursion (IsJoined points) (extra_over overlay)
@@ -190,10 +190,10 @@ module _ (overlay : OverlayParts) (graph : Graph) (added : List Point) (distinct
         → (f : GraphNode → List Edge) → f (bare_node false) ≡ []
         → ((p : Point) → f (node_with accepts graph.points edges p) ≡ edges_with end graph.points edges p)
         → (n : ℕ) (p : Point) → slice_get points n ≡ Some p
-        → edges_with end points (extra_over overlay) p ++ filter_map (laid_by last) (f (node_at graph n))
+        → edges_with end points (extra_over overlay) p ++ filter_map (overlaid_by last) (f (node_at graph n))
         ≡ edges_with end points (laid_before overlay edges) p
     both_with end same ends f none is n p at =
-        ap (λ (l : List Edge). edges_with end points (extra_over overlay) p ++ filter_map (laid_by last) l)
+        ap (λ (l : List Edge). edges_with end points (extra_over overlay) p ++ filter_map (overlaid_by last) l)
         (base_at graph.points added distinct accepts end edges graph.nodes shows ends f none is n p at)
         ∙ ap (λ (l : List Edge). edges_with end points (extra_over overlay) p ++ l)
         (laid_edges overlay points last said_last end same edges (joined_left graph.points added distinct edges shows.joined) p)
@@ -212,10 +212,10 @@ module _ (overlay : OverlayParts) (graph : Graph) (added : List Point) (distinct
       nodes_are = by_is (node_over graph last.places into out) (node_with takes points (laid_before overlay edges)) points
           (λ n p at. node_is _ _ (are n p at)
           (into_at graph accepts edges own shows first last placed more reached into out into_is out_is n
-          ∙ ap (λ (l : List Edge). l ++ filter_map (laid_by last) (node_at graph n).into) (said_last n p at).entering
+          ∙ ap (λ (l : List Edge). l ++ filter_map (overlaid_by last) (node_at graph n).into) (said_last n p at).entering
           ∙ both_with (λ e. e.to) (λ e. refl) (λ e both. both.1) (λ node. node.into) refl (λ p. refl) n p at)
           (out_at graph accepts edges own shows first last placed more reached into out into_is out_is n
-          ∙ ap (λ (l : List Edge). l ++ filter_map (laid_by last) (node_at graph n).out) (said_last n p at).leaving
+          ∙ ap (λ (l : List Edge). l ++ filter_map (overlaid_by last) (node_at graph n).out) (said_last n p at).leaving
           ∙ both_with (λ e. e.from) (λ e. refl) (λ e both. both.0) (λ node. node.out) refl (λ p. refl) n p at));
     }
 
@@ -287,16 +287,16 @@ module _ (overlay : OverlayParts) (graph : Graph) (added : List Point) (distinct
 -- the same of points that are these
 module _ (overlay : OverlayParts) (graph : Graph) (points added : List Point) (is : points ≡ graph.points ++ added) (distinct : IsDistinct is_point points)
     (own : IsDistinct is_point graph.points) (joined : AllByRecursion (IsJoined points) overlay.extra)
-    (first last : Touched) (placed : ArePlaced last) (more : IsTouchedMore first last) (said : AreSaid (sayings_of overlay) points first)
+    (first last : Touched) (placed : ArePlaced last) (more : IsTouchedMore first last) (local : AreApplied (overrides_of overlay) points first)
     (reached : AreReached graph last (length first.nodes)) (into out : List (List Edge))
-    (into_is : into ≡ map (λ said. laid_list last (node_at graph said.node).into said.entering) last.nodes)
-    (out_is : out ≡ map (λ said. laid_list last (node_at graph said.node).out said.leaving) (take (length first.nodes) last.nodes)) where
+    (into_is : into ≡ map (λ local. overlaid_list last (node_at graph local.node).into local.entering) last.nodes)
+    (out_is : out ≡ map (λ local. overlaid_list last (node_at graph local.node).out local.leaving) (take (length first.nodes) last.nodes)) where
   pub is_sound : IsSound graph → length points < 2 ^ 32 → IsSound (graph_over graph points last.places into out)
   is_sound sound few =
       subst (λ (ps : List Point). IsSound (graph_over graph ps last.places into out)) (sym is)
       (sound_over overlay graph added (subst (IsDistinct is_point) is distinct) own
       (subst (λ (ps : List Point). AllByRecursion (IsJoined ps) overlay.extra) is joined) first last placed more
-      (subst (λ (ps : List Point). AreSaid (sayings_of overlay) ps first) is said) reached into out into_is out_is
+      (subst (λ (ps : List Point). AreApplied (overrides_of overlay) ps first) is local) reached into out into_is out_is
       sound (subst (λ (ps : List Point). length ps < 2 ^ 32) is few))
 
   pub is_once : (rows : Rows) → AreEnded rows → IsGraphOf rows graph
@@ -305,4 +305,4 @@ module _ (overlay : OverlayParts) (graph : Graph) (points added : List Point) (i
       subst (λ (ps : List Point). IsPermutation (overlaid_edges graph.known rows overlay) (point_edges (graph_over graph ps last.places into out))) (sym is)
       (overlaid_once overlay graph added (subst (IsDistinct is_point) is distinct) own
       (subst (λ (ps : List Point). AllByRecursion (IsJoined ps) overlay.extra) is joined) first last placed more
-      (subst (λ (ps : List Point). AreSaid (sayings_of overlay) ps first) is said) reached into out into_is out_is rows ended beside)
+      (subst (λ (ps : List Point). AreApplied (overrides_of overlay) ps first) is local) reached into out into_is out_is rows ended beside)

@@ -1,4 +1,4 @@
--- What is said of the edges with an id, once one thing more is.
+-- The overrides of the edges with an id, once one thing more is.
 use Rattle.std.proofs.Common.{◌≡◌, ℕ, ◌<◌, Bool, true, false, cond, List, [], ◌∷◌, Option, Some, None, refl, sym, ap, ◌∙◌, arith}
 use Rattle.std.specs.Prelude.{eqb, min, unwrap_or}
 use Rattle.std.specs.Map.{lookup}
@@ -21,7 +21,7 @@ apart_at : (id key : ℕ) → nat_cmp id key ≡ Greater → eqb key id ≡ fals
 apart_at id key is = grind (arith, nat_tests)
 
 module _ (key : ℕ) (own : EdgeTerms) (id : ℕ) where
-  -- what is said of a key is found at it, and at the others what was
+  -- the overrides of a key is found at it, and at the others what was
   looked_up : (terms : Terms) → lookup (is_at (nat_cmp id)) (with_terms terms key own)
       ≡ cond (eqb key id) (Some own) (lookup (is_at (nat_cmp id)) terms)
   looked_up [] = ap (λ b. cond b (Some own) None) (found_at id key)
@@ -60,7 +60,7 @@ module _ (key : ℕ) (own : EdgeTerms) (id : ℕ) where
               not_key = grind (arith, nat_tests, same_id, is)
           behind false here = rw here rest
 
-  -- so what is said of an id changes where it is the key
+  -- so the overrides of an id changes where it is the key
   pub terms_are : (terms : Terms) → terms_of (with_terms terms key own) id ≡ cond (eqb key id) own (terms_of terms id)
   terms_are terms = ap (λ found. unwrap_or found no_terms) (looked_up terms) ∙ by (eqb key id)
     where

@@ -1,101 +1,57 @@
 -- How nodes are touched.
-use Rattle.std.proofs.Common.{◌≡◌, ◌≢◌, inl, inr, ℕ, ◌+◌, ◌<◌, ◌≤◌, ◌^◌, Bool, true, false, List, [], ◌∷◌, ◌++◌, length, get_or, set, zero, suc}
-use Rattle.std.proofs.Common.{refl, sym, ap, subst, ◌∙◌, Option, Some, arith, append_assoc, length-append, true≢false, take, ltb}
+use Rattle.std.proofs.Common.{◌≡◌, ◌≢◌, inl, inr, ℕ, ◌+◌, ◌<◌, ◌≤◌, Bool, true, false, List, [], ◌∷◌, ◌++◌, length, get_or, set, zero, suc}
+use Rattle.std.proofs.Common.{refl, sym, ap, subst, ◌∙◌, Option, Some, arith, append_assoc, true≢false, take, ltb}
 use Rattle.std.specs.Prelude.{unwrap_or, eqb}
 use Rattle.std.specs.List.{AllByRecursion, Contains, slice_get}
 use Rattle.std.proofs.lemmas.Bool.{eqb-true, eq-eqb, ltb-true, ltb-false}
-use Rattle.std.proofs.lemmas.List.{append-nil, length-set, get_or-set_same, get_or-set_other, take_more}
-use Rattle.std.proofs.lemmas.Option.{slice_get_within, slice_get-get_or}
+use Rattle.std.proofs.lemmas.List.{append-nil, take_more}
+use Rattle.std.proofs.lemmas.Option.{slice_get-get_or}
 use Rattle.lgm_store.proofs.ListLaws.{All-to, All-append}
 use Rattle.lgm_graph.specs.declared.edge.Edge.{Edge}
 use Rattle.lgm_graph.specs.Graph.{Graph, edges_leaving}
-use Rattle.lgm_graph.specs.inner.Overlaying.{Said, Touched, ArePlaced, IsTouchedMore, LeadsTo, IsReached, AreReached, IsBare}
-use Rattle.lgm_graph.specs.Places.{at_place}
-use Rattle.lgm_graph.specs.inner.Overlaying.{nothing_of, place_of, said_of, laid_at}
+use Rattle.lgm_graph.specs.inner.Overlaying.{NodeOverrides, Touched, ArePlaced, IsTouchedMore, LeadsTo, IsReached, AreReached, IsBare}
+use Rattle.lgm_graph.specs.Places.{at_place, place_of}
+use Rattle.lgm_graph.specs.inner.Overlaying.{nothing_of, overrides_at, overlaid_at}
 use Rattle.lgm_graph.proofs.Further.{slice_left}
-use Rattle.lgm_graph.proofs.PlaceLaws.{used_none, used_set, used_less, slice_last}
+use Rattle.lgm_graph.proofs.PlaceLaws.{with_more, more_other, more_long, more_here, more_others, more_placed, new_placed, new_here, new_others}
 use Rattle.lgm_graph.proofs.Members.{Among-Contains, All_among}
-
-pub none_placed : (places : List ℕ) → ((n : ℕ) → get_or places n 0 ≡ 0) → length places < 2 ^ 32
-    → ArePlaced (record { places = places; nodes = [] })
-none_placed places none few = record {
-  own = λ number k is. absurd (let h : 0 ≡ suc k = sym (none number) ∙ is in omega (arith, h));
-  count = sym (used_none places none);
-  few = few;
-}
 
 -- ---- a further node
 
-module _ (t : Touched) (placed : ArePlaced t) where
-  -- a place is that of some node
-  pub place_within : (n k : ℕ) → place_of t n ≡ suc k → k < length t.nodes
-  place_within n k is = let own = placed.own n k is in slice_get_within t.nodes k own.0 own.1
+module _ (t : Touched) (placed : ArePlaced t) (n : ℕ) (within : n < length t.places) (new : place_of t n ≡ 0) where
+  abbrev pub touched : Touched
+  touched = with_more t placed (nothing_of n) within new
 
-  module _ (n : ℕ) (within : n < length t.places) (new : place_of t n ≡ 0) where
-    pub few_nodes : length t.nodes + 1 < 2 ^ 32
-    few_nodes = omega (arith, placed.count, placed.few, used_less t.places n within new)
+  kept_at : (m k : ℕ) → place_of t m ≡ suc k → m ≢ n
+  kept_at m k is same = let h : 0 ≡ suc k = sym new ∙ ap (place_of t) (sym same) ∙ is in omega (arith, h)
 
-    abbrev pub touched : Touched
-    touched = record { places = set t.places n (suc (length t.nodes)); nodes = t.nodes ++ nothing_of n ∷ [] }
+  pub touched_placed : ArePlaced touched
+  touched_placed = more_placed t placed (nothing_of n) within new
 
-    place_same : place_of touched n ≡ suc (length t.nodes)
-    place_same = get_or-set_same t.places n (suc (length t.nodes)) 0 within
+  same_overrides : (m : ℕ) (b : Bool) → eqb m n ≡ b → overrides_at touched m ≡ overrides_at t m
+  same_overrides m true e =
+      let same : m ≡ n = eqb-true m n e in
+      let after : overrides_at touched n ≡ nothing_of n =
+      ap (λ (o : Option NodeOverrides). unwrap_or o (nothing_of n)) (more_here t placed (nothing_of n) within new) in
+      let before : overrides_at t n ≡ nothing_of n = ap (λ k. unwrap_or (at_place t.nodes k) (nothing_of n)) new in
+      ap (overrides_at touched) same ∙ after ∙ sym before ∙ ap (overrides_at t) (sym same)
+  same_overrides m false e =
+      let apart : m ≢ n = λ same. (let h : true ≡ false = sym (eq-eqb m n same) ∙ e in true≢false h) in
+      ap (λ (o : Option NodeOverrides). unwrap_or o (nothing_of m)) (more_others t placed (nothing_of n) within new m apart)
 
-    place_other : (m : ℕ) → m ≢ n → place_of touched m ≡ place_of t m
-    place_other m apart = get_or-set_other t.places n m (suc (length t.nodes)) 0 apart
-
-    kept_at : (m k : ℕ) → place_of t m ≡ suc k → m ≢ n
-    kept_at m k is same = let h : 0 ≡ suc k = sym new ∙ ap (place_of t) (sym same) ∙ is in omega (arith, h)
-
-    pub touched_placed : ArePlaced touched
-    touched_placed = record {
-      own = λ m k is. by m k is (eqb m n) refl;
-      count = omega (arith, length-append t.nodes (nothing_of n ∷ []), placed.count, used_set t.places n (length t.nodes) within new);
-      few = omega (arith, placed.few, length-set t.places n (suc (length t.nodes)));
-    }
-      where
-        by : (m k : ℕ) → place_of touched m ≡ suc k → (b : Bool) → eqb m n ≡ b
-            → (said : Said) × (slice_get touched.nodes k ≡ Some said) × (said.node ≡ m)
-        by m k is true e =
-            let same : m ≡ n = eqb-true m n e in
-            let here : k ≡ length t.nodes =
-            let h : suc k ≡ suc (length t.nodes) = sym is ∙ ap (place_of touched) same ∙ place_same in omega (arith, h) in
-            (nothing_of n, ap (slice_get touched.nodes) here ∙ slice_last t.nodes (nothing_of n), sym same)
-        by m k is false e =
-            let apart : m ≢ n = λ same. (let h : true ≡ false = sym (eq-eqb m n same) ∙ e in true≢false h) in
-            let own = placed.own m k (sym (place_other m apart) ∙ is) in
-            (own.0, slice_left t.nodes (nothing_of n ∷ []) k (slice_get_within t.nodes k own.0 own.1) ∙ own.1, own.2)
-
-    said_same : (m : ℕ) (b : Bool) → eqb m n ≡ b → said_of touched m ≡ said_of t m
-    said_same m true e =
-        let same : m ≡ n = eqb-true m n e in
-        let after : said_of touched n ≡ nothing_of n =
-        ap (λ k. unwrap_or (at_place touched.nodes k) (nothing_of n)) place_same
-        ∙ ap (λ (o : Option Said). unwrap_or o (nothing_of n)) (slice_last t.nodes (nothing_of n)) in
-        let before : said_of t n ≡ nothing_of n = ap (λ k. unwrap_or (at_place t.nodes k) (nothing_of n)) new in
-        ap (said_of touched) same ∙ after ∙ sym before ∙ ap (said_of t) (sym same)
-    said_same m false e =
-        let apart : m ≢ n = λ same. (let h : true ≡ false = sym (eq-eqb m n same) ∙ e in true≢false h) in
-        ap (λ k. unwrap_or (at_place touched.nodes k) (nothing_of m)) (place_other m apart) ∙ by (place_of t m) refl
-      where
-        by : (k : ℕ) → place_of t m ≡ k → unwrap_or (at_place touched.nodes (place_of t m)) (nothing_of m) ≡ said_of t m
-        by zero is = rw is refl
-        by (suc k) is =
-            rw is (ap (λ (o : Option Said). unwrap_or o (nothing_of m)) (slice_left t.nodes (nothing_of n ∷ []) k (place_within m k is)))
-
-    pub touched_more : IsTouchedMore t touched
-    touched_more = record {
-      same = λ m. said_same m (eqb m n) refl;
-      kept = λ m k is. place_other m (kept_at m k is) ∙ is;
-      more = nothing_of n ∷ [];
-      nodes = refl;
-      bare = bare;
-      long = length-set t.places n (suc (length t.nodes));
-    }
-      where
-        bare : (k : ℕ) (said : Said) → slice_get (nothing_of n ∷ []) k ≡ Some said → IsBare said
-        bare zero said is = let same : nothing_of n ≡ said = cc in subst IsBare same refl
-        bare (suc k) said is = absurd cc
+  pub touched_more : IsTouchedMore t touched
+  touched_more = record {
+    same = λ m. same_overrides m (eqb m n) refl;
+    kept = λ m k is. more_other t placed (nothing_of n) within new m (kept_at m k is) ∙ is;
+    more = nothing_of n ∷ [];
+    nodes = refl;
+    bare = bare;
+    long = more_long t placed (nothing_of n) within new;
+  }
+    where
+      bare : (k : ℕ) (local : NodeOverrides) → slice_get (nothing_of n ∷ []) k ≡ Some local → IsBare local
+      bare zero local is = let same : nothing_of n ≡ local = cc in subst IsBare same refl
+      bare (suc k) local is = absurd cc
 
 pub more_none : (t : Touched) → IsTouchedMore t t
 more_none t = record {
@@ -103,7 +59,7 @@ more_none t = record {
   kept = λ m k is. is;
   more = [];
   nodes = sym (append-nil t.nodes);
-  bare = λ k said is. absurd cc;
+  bare = λ k local is. absurd cc;
   long = refl;
 }
 
@@ -117,84 +73,40 @@ more_again a b c one two = record {
   long = two.long ∙ one.long;
 }
   where
-    both : (more : List Said) → ((k : ℕ) (said : Said) → slice_get more k ≡ Some said → IsBare said)
-        → (k : ℕ) (said : Said) → slice_get (more ++ two.more) k ≡ Some said → IsBare said
-    both [] first k said is = two.bare k said is
-    both (s ∷ ss) first zero said is = first zero said is
-    both (s ∷ ss) first (suc k) said is = both ss (λ j. first (suc j)) k said is
+    both : (more : List NodeOverrides) → ((k : ℕ) (local : NodeOverrides) → slice_get more k ≡ Some local → IsBare local)
+        → (k : ℕ) (local : NodeOverrides) → slice_get (more ++ two.more) k ≡ Some local → IsBare local
+    both [] first k local is = two.bare k local is
+    both (s ∷ ss) first zero local is = first zero local is
+    both (s ∷ ss) first (suc k) local is = both ss (λ j. first (suc j)) k local is
 
--- ---- what is said of a node changes
+-- ---- the overrides of a node changes
 
-slice_set_other : {X : Type 0} (xs : List X) (k j : ℕ) (x : X) → j ≢ k → slice_get (set xs k x) j ≡ slice_get xs j
-slice_set_other [] k j x apart = refl
-slice_set_other (y ∷ ys) zero zero x apart = absurd (apart refl)
-slice_set_other (y ∷ ys) zero (suc j) x apart = refl
-slice_set_other (y ∷ ys) (suc k) zero x apart = refl
-slice_set_other (y ∷ ys) (suc k) (suc j) x apart = slice_set_other ys k j x (λ same. apart (ap suc same))
-
-slice_set_own : {X : Type 0} (xs : List X) (k : ℕ) (x : X) → k < length xs → slice_get (set xs k x) k ≡ Some x
-slice_set_own xs k x lt =
-    let within : k < length (set xs k x) = omega (arith, lt, length-set xs k x) in
-    slice_get-get_or (set xs k x) k x within ∙ ap Some (get_or-set_same xs k x x lt)
-
-module _ (t : Touched) (placed : ArePlaced t) (k : ℕ) (old new : Said) (within : k < length t.nodes) (old_is : old ≡ get_or t.nodes k old)
+module _ (t : Touched) (placed : ArePlaced t) (k : ℕ) (old new : NodeOverrides) (within : k < length t.nodes) (old_is : old ≡ get_or t.nodes k old)
     (same : new.node ≡ old.node) where
-  abbrev told : Touched
-  told = record { places = t.places; nodes = set t.nodes k new }
+  abbrev changed : Touched
+  changed = record { places = t.places; nodes = set t.nodes k new }
 
   old_at : slice_get t.nodes k ≡ Some old
   old_at = slice_get-get_or t.nodes k old within ∙ ap Some (sym old_is)
 
-  pub told_placed : ArePlaced told
-  told_placed = record {
-    own = λ m j is. by m j is (eqb j k) refl;
-    count = length-set t.nodes k new ∙ placed.count;
-    few = placed.few;
-  }
-    where
-      by : (m j : ℕ) → place_of t m ≡ suc j → (b : Bool) → eqb j k ≡ b → (said : Said) × (slice_get told.nodes j ≡ Some said) × (said.node ≡ m)
-      by m j is true e =
-          let here : j ≡ k = eqb-true j k e in
-          let own = placed.own m j is in
-          let stays : own.0 ≡ old = let h : Some own.0 ≡ Some old = sym own.1 ∙ ap (slice_get t.nodes) here ∙ old_at in cc in
-          (new, ap (slice_get told.nodes) here ∙ slice_set_own t.nodes k new within, same ∙ ap (λ (s : Said). s.node) (sym stays) ∙ own.2)
-      by m j is false e =
-          let apart : j ≢ k = λ same. (let h : true ≡ false = sym (eq-eqb j k same) ∙ e in true≢false h) in
-          let own = placed.own m j is in
-          (own.0, slice_set_other t.nodes k j new apart ∙ own.1, own.2)
+  pub changed_placed : ArePlaced changed
+  changed_placed = new_placed t placed k old new old_at same
 
   module _ (n : ℕ) (there : place_of t n ≡ suc k) where
-    pub told_own : said_of told n ≡ new
-    told_own =
-        ap (λ j. unwrap_or (at_place told.nodes j) (nothing_of n)) there
-        ∙ ap (λ (o : Option Said). unwrap_or o (nothing_of n)) (slice_set_own t.nodes k new within)
+    pub changed_own : overrides_at changed n ≡ new
+    changed_own = ap (λ (o : Option NodeOverrides). unwrap_or o (nothing_of n)) (new_here t placed k old new old_at same n there)
 
-    pub was_own : said_of t n ≡ old
-    was_own = ap (λ j. unwrap_or (at_place t.nodes j) (nothing_of n)) there ∙ ap (λ (o : Option Said). unwrap_or o (nothing_of n)) old_at
+    pub was_own : overrides_at t n ≡ old
+    was_own = ap (λ j. unwrap_or (at_place t.nodes j) (nothing_of n)) there ∙ ap (λ (o : Option NodeOverrides). unwrap_or o (nothing_of n)) old_at
 
-    pub told_other : (m : ℕ) → m ≢ n → said_of told m ≡ said_of t m
-    told_other m apart = by (place_of t m) refl
-      where
-        node : old.node ≡ n
-        node =
-            let own = placed.own n k there in
-            let stays : own.0 ≡ old = let h : Some own.0 ≡ Some old = sym own.1 ∙ old_at in cc in
-            ap (λ (s : Said). s.node) (sym stays) ∙ own.2
-
-        elsewhere : (j : ℕ) → place_of t m ≡ suc j → j ≢ k
-        elsewhere j is here =
-            let own = placed.own m j is in
-            let stays : own.0 ≡ old = let h : Some own.0 ≡ Some old = sym own.1 ∙ ap (slice_get t.nodes) here ∙ old_at in cc in
-            apart (sym own.2 ∙ ap (λ (s : Said). s.node) stays ∙ node)
-
-        by : (j : ℕ) → place_of t m ≡ j → said_of told m ≡ said_of t m
-        by zero is = rw is refl
-        by (suc j) is = rw is (ap (λ (o : Option Said). unwrap_or o (nothing_of m)) (slice_set_other t.nodes k j new (elsewhere j is)))
+    pub changed_other : (m : ℕ) → m ≢ n → overrides_at changed m ≡ overrides_at t m
+    changed_other m apart =
+        ap (λ (o : Option NodeOverrides). unwrap_or o (nothing_of m)) (new_others t placed k old new old_at same n there m apart)
 
 -- ---- edges that lead to nodes that are touched
 
 pub leads_more : (a b : Touched) → IsTouchedMore a b → (edge : Edge) → LeadsTo a edge → LeadsTo b edge
-leads_more a b more edge (inl stays) = inl (ap (λ s. laid_at s edge) (more.same edge.from) ∙ stays)
+leads_more a b more edge (inl stays) = inl (ap (λ s. overlaid_at s edge) (more.same edge.from) ∙ stays)
 leads_more a b more edge (inr there) = inr (by (place_of a edge.to) refl)
   where
     by : (place : ℕ) → place_of a edge.to ≡ place → place_of b edge.to ≢ 0
@@ -213,18 +125,18 @@ one_leading a b more edges i item lt is leads all =
 
 -- the edges of one of the nodes
 pub reached_at : (graph : Graph) (t : Touched) (k node : ℕ) → k < length t.nodes
-    → ((said : Said) → slice_get t.nodes k ≡ Some said → said.node ≡ node) → AllByRecursion (LeadsTo t) (edges_leaving graph node) → IsReached graph t k
-reached_at graph t k node within own all said is edge there =
+    → ((local : NodeOverrides) → slice_get t.nodes k ≡ Some local → local.node ≡ node) → AllByRecursion (LeadsTo t) (edges_leaving graph node) → IsReached graph t k
+reached_at graph t k node within own all local is edge there =
     All_among (LeadsTo t) (edges_leaving graph node) edge all
-    (Among-Contains (edges_leaving graph node) edge (subst (λ n. Contains (edges_leaving graph n) edge) (own said is) there))
+    (Among-Contains (edges_leaving graph node) edge (subst (λ n. Contains (edges_leaving graph n) edge) (own local is) there))
 
 -- and those of the nodes before
 pub reached_more : (graph : Graph) (a b : Touched) (count : ℕ) → IsTouchedMore a b → count ≤ length a.nodes → AreReached graph a count
     → AreReached graph b count
-reached_more graph a b count more few all k lt said is edge there =
-    let was : slice_get a.nodes k ≡ Some said =
+reached_more graph a b count more few all k lt local is edge there =
+    let was : slice_get a.nodes k ≡ Some local =
     sym (slice_left a.nodes more.more k (omega (arith, lt, few))) ∙ ap (λ l. slice_get l k) (sym more.nodes) ∙ is in
-    leads_more a b more edge (all k lt said was edge there)
+    leads_more a b more edge (all k lt local was edge there)
 
 pub reached_next : (graph : Graph) (a b : Touched) (k : ℕ) → IsTouchedMore a b → k < length a.nodes → AreReached graph a k → IsReached graph b k
     → AreReached graph b (k + 1)

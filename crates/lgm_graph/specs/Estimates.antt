@@ -1,6 +1,7 @@
 -- What a payer has learnt of edges.
 use Rattle.std.specs.Prelude.{◌≡◌, ℕ, ◌+◌, ◌-◌, ◌^◌, Bool, false, ◌==◌, ◌&&◌, max, min, List, [], ◌∷◌, ◌++◌}
 use Rattle.std.specs.Prelude.{Option, Some, None, is_some, length, if◌then◌else◌}
+use Rattle.std.specs.List.{IsDistinct}
 use Rattle.std.specs.Option.{unwrap_or}
 use Rattle.std.specs.Map.{keys_of, lookup}
 use Rattle.lgm_wire.specs.declared.point.Point.{Point}
@@ -22,6 +23,10 @@ key_of id from = record { scid = id; from = from }
 -- what is known of the edge with an id out of a node, if something is: the first entry's
 abbrev pub known_of : Entries → ℕ → Point → Option Estimate
 known_of entries id from = lookup (is_key id from) entries
+
+-- no two entries are of one edge
+abbrev pub AreOfDistinctEdges : Entries → Type 0
+AreOfDistinctEdges entries = IsDistinct (λ key other. is_key key.scid key.from other) (keys_of entries)
 
 -- what is believed of an edge of which nothing is known
 abbrev pub no_estimate : Estimate
@@ -53,6 +58,8 @@ pub record IsEstimated (old : Entries) (id : ℕ) (from : Point) (estimate : Est
   -- it keeps its place, or it comes last
   pub places : keys_of new ≡ keys_of old ++ (if is_some (known_of old id from) then [] else key_of id from ∷ [])
   pub count : length new ≡ length old + (if is_some (known_of old id from) then 0 else 1)
+  -- an edge of which nothing was known comes behind the others, which stay as they are
+  pub added : known_of old id from ≡ None → new ≡ old ++ (key_of id from, estimate) ∷ []
 
 -- nothing is known of one edge, and of the others what was
 pub record IsForgotten (old : Entries) (id : ℕ) (from : Point) (new : Entries) : Type 0 where

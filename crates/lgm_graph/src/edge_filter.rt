@@ -64,9 +64,8 @@ impl EdgeFilter {
         }
     }
 
-    /// An edge may be known from now on. The only error is out of memory, which comes before the first edge alone, and
-    /// changes nothing.
-    pub(crate) fn note(&mut self, scid: Scid, from: &Point) -> Result<(), AllocError>
+    /// An edge may be known from now on. Out of memory, which comes before the first edge alone, changes nothing.
+    pub(crate) fn add(&mut self, scid: Scid, from: &Point) -> Result<(), AllocError>
         ensures here { OnOk result (bit_of self.new (class_of scid from.now) ≡ 1) }
         ensures kept { (class : ℕ) → bit_of self.old class ≡ 1 → bit_of self.new class ≡ 1 }
         ensures first { OnErr result (self.old ≡ []) }
@@ -78,7 +77,7 @@ impl EdgeFilter {
         Ok(())
     }
 
-    /// Ensures that there is a word for each 64 classes. The only error is out of memory, where there was none.
+    /// Ensures that there is a word for each 64 classes. Memory runs out only where there was none.
     fn grow(&mut self) -> Result<(), AllocError>
         ensures long { OnOk result (length self.new ≡ 4096) }
         ensures kept { (class : ℕ) → bit_of self.old class ≡ 1 → bit_of self.new class ≡ 1 }
@@ -91,7 +90,7 @@ impl EdgeFilter {
         Ok(())
     }
 
-    /// A copy. The only error is out of memory.
+    /// A copy.
     pub(crate) fn copy(&self) -> Result<EdgeFilter, AllocError>
         ensures { IfOk result (λ copy. copy ≡ self.now) }
     {

@@ -10,13 +10,6 @@ use crate::edge::Edge;
 use lgm_gossip::Scid;
 use std::cmp::Ordering;
 
-/// The order of an edge relative to an id and direction.
-fn order(edge: &Edge, scid: Scid, second: bool) -> Ordering
-    ensures { result ≡ edge_key scid second edge.now }
-{
-    edge.scid.cmp(&scid).then(edge.second.cmp(&second))
-}
-
 /// The index of the edge with an id and direction, or the index at which it would be inserted.
 fn place(edges: &[Edge], scid: Scid, second: bool) -> Result<usize, usize>
     requires { IsCut (edge_key scid second) edges.now }
@@ -31,7 +24,7 @@ fn place(edges: &[Edge], scid: Scid, second: bool) -> Result<usize, usize>
     edges.binary_search_by(
         |edge: &Edge| -> Ordering
             ensures { result ≡ edge_key scid second edge.now }
-        { order(edge, scid, second) },
+        { edge.scid.cmp(&scid).then(edge.second.cmp(&second)) },
     )
 }
 

@@ -2,7 +2,7 @@
 
 ghost use Rattle.std.specs.Prelude.{◌≡◌, [], length, slice_get, false, IfOk, OnOk, OnErr};
 ghost use Rattle.std.specs.Option.{is_some};
-ghost use Rattle.lgm_graph.specs.Estimates.{IsEstimated, IsForgotten, carried, failed, estimate_of, known_of};
+ghost use Rattle.lgm_graph.specs.Estimates.{AreOfDistinctEdges, IsEstimated, IsForgotten, carried, failed, estimate_of, known_of};
 
 use crate::edge_filter::EdgeFilter;
 use crate::estimate::{EdgeKey, Estimate, NO_ESTIMATE};
@@ -60,14 +60,14 @@ impl Estimates {
         }
     }
 
-    /// Sets what is believed of an edge. The first one takes 32 KiB beside its entry. The only error is out of memory, which
-    /// changes nothing; of an edge of which something is known it never comes.
+    /// Sets what is believed of an edge. The first one takes 32 KiB beside its entry. Out of memory changes nothing; of
+    /// an edge of which something is known it never comes.
     pub fn set(&mut self, scid: Scid, from: &Point, estimate: Estimate) -> Result<(), AllocError>
         ensures set { OnOk result (IsEstimated self.old scid from.now estimate self.new) }
         ensures new { OnErr result (is_some (known_of self.old scid from.now) ≡ false) }
         ensures stays { OnErr result (self.new ≡ self.old) }
     {
-        self.filter.note(scid, from)?;
+        self.filter.add(scid, from)?;
         self.entries
             .insert(EdgeKey { scid, from: *from }, estimate)?;
         Ok(())
@@ -85,8 +85,8 @@ impl Estimates {
             .is_some()
     }
 
-    /// Notes that an edge carried an amount, in msat: it surely carries as much. The only error is out of memory, which
-    /// changes nothing; of an edge of which something is known it never comes.
+    /// Notes that an edge carried an amount, in msat: it surely carries as much. Out of memory changes nothing; of an
+    /// edge of which something is known it never comes.
     pub fn carried(&mut self, scid: Scid, from: &Point, amount: u64) -> Result<(), AllocError>
         ensures carried { OnOk result
             (IsEstimated self.old scid from.now (carried amount (estimate_of self.old scid from.now)) self.new) }
@@ -97,8 +97,8 @@ impl Estimates {
         self.set(scid, from, estimate)
     }
 
-    /// Notes that an edge failed to carry an amount, in msat: it surely carries less. The only error is out of memory,
-    /// which changes nothing; of an edge of which something is known it never comes.
+    /// Notes that an edge failed to carry an amount, in msat: it surely carries less. Out of memory changes nothing; of
+    /// an edge of which something is known it never comes.
     pub fn failed(&mut self, scid: Scid, from: &Point, amount: u64) -> Result<(), AllocError>
         ensures failed { OnOk result
             (IsEstimated self.old scid from.now (failed amount (estimate_of self.old scid from.now)) self.new) }
@@ -116,6 +116,14 @@ impl Estimates {
         self.entries.len()
     }
 
+    /// No two entries are of one edge. The call does nothing: its contract is the law.
+    pub fn are_of_distinct_edges(&self)
+        ensures { AreOfDistinctEdges self.now }
+    {
+        // The contract of `len` says so of each table.
+        let _len = self.entries.len();
+    }
+
     /// The edge at a place below that number, with what is believed of it. Edges stand as something became known of
     /// them; [`Estimates::forget`] changes the places.
     pub fn at(&self, place: usize) -> Option<(EdgeKey, Estimate)>
@@ -125,7 +133,7 @@ impl Estimates {
         Some((*key, *estimate))
     }
 
-    /// A copy. The only error is out of memory.
+    /// A copy.
     pub fn copy(&self) -> Result<Estimates, AllocError>
         ensures { IfOk result (λ copy. copy ≡ self.now) }
     {

@@ -5,6 +5,8 @@
 //! unknown features takes no payments. A [`Network`] is a map with its view as one value. An [`Overlay`] is what a payer
 //! knows beside the map, and an [`OverlayView`] the view over it. A [`RoutingGraph`] is what a search reads. [`Estimates`]
 //! are what a payer has learnt of edges. A [`Route`] is a walk over edges with what each [`Hop`] forwards.
+//!
+//! Where an error is `AllocError`, memory ran out.
 #![tactic(auto)]
 
 mod edge;
@@ -17,6 +19,7 @@ mod known;
 mod laws;
 mod network;
 mod node;
+mod node_table;
 mod nodes;
 mod overlay;
 mod overlay_laws;
@@ -32,6 +35,7 @@ pub use fees::fee;
 pub use known::Known;
 pub use laws::edges_are_directions;
 pub use network::Network;
+pub use node_table::{no_places, place_in};
 pub use overlay::{ExtraEdge, Limit, Overlay};
 pub use overlay_laws::overlays_are_lawful;
 pub use overlay_view::OverlayView;

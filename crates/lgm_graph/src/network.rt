@@ -8,6 +8,7 @@ ghost use Rattle.lgm_store.specs.History.{absorbed};
 ghost use Rattle.lgm_graph.specs.Network.{GoesOn, IsViewed, KeepsView, most_points};
 
 use crate::known::Known;
+use crate::routing_graph::RoutingGraph;
 use crate::view::View;
 use lgm_check::Refusal;
 use lgm_store::{CheckedMessage, Hint, Map, Op, Seed};
@@ -52,7 +53,7 @@ impl Model for Network {
 
 impl Network {
     /// No channels and no nodes, without a view. Points are hashed with the seed, and the known feature bits are
-    /// copied. The only error is out of memory.
+    /// copied.
     pub fn new(alloc: Global, seed: Seed, known: &Known) -> Result<Network, AllocError>
         ensures { IfOk result
             (λ network. network ≡ record { known = known.now; rows = empty; graph = None }) }
@@ -60,7 +61,7 @@ impl Network {
         Network::of(alloc, Map::with_seed(alloc, seed)?, known)
     }
 
-    /// A map, without a view. The known feature bits are copied. The only error is out of memory.
+    /// A map, without a view. The known feature bits are copied.
     pub fn of(alloc: Global, map: Map, known: &Known) -> Result<Network, AllocError>
         ensures { IfOk result (λ network. network ≡ record { known = known.now; rows = map; graph = None }) }
     {
@@ -74,7 +75,7 @@ impl Network {
         })
     }
 
-    /// A copy of the map, without a view. The only error is out of memory.
+    /// A copy of the map, without a view.
     pub fn copy(&self, alloc: Global) -> Result<Network, AllocError>
         ensures { IfOk result (λ copy. copy ≡ record self.now { graph = None }) }
     {
@@ -88,7 +89,7 @@ impl Network {
         &self.parts.known
     }
 
-    /// The map.
+    /// The map, of which the view is if there is one.
     pub fn map(&self) -> &Map
         ensures { result.now ≡ self.now.rows }
     {

@@ -1,9 +1,8 @@
 //! A numbered node, with its edges.
 
-ghost use Rattle.std.specs.Prelude.{◌≡◌, ◌++◌, ◌∷◌, [], filter, OnOk};
+ghost use Rattle.std.specs.Prelude.{◌≡◌, filter};
 ghost use Rattle.lgm_graph.specs.Graph.{bare_node, open_into};
-ghost use Rattle.lgm_graph.specs.inner.Lists.{edge_key, IsCut, put_at};
-ghost use Rattle.lgm_graph.specs.inner.Sound.{node_in, into_changed, out_changed, kept_in, HasRoomInto, HasRoomOut};
+ghost use Rattle.lgm_graph.specs.inner.Sound.{node_in, kept_in};
 ghost use Rattle.lgm_graph.specs.inner.Sound.{is_not_of, is_allowed, banned_at};
 
 use crate::edge::Edge;
@@ -53,61 +52,6 @@ impl Node {
     {
         self.into.reserve_exact(into as usize)?;
         self.out.reserve_exact(out as usize)
-    }
-
-    /// Reserves capacity for one more edge into it.
-    pub(crate) fn reserve_into(&mut self) -> Result<(), AllocError>
-        ensures same { node_in self.new ≡ node_in self.old }
-        ensures room { OnOk result (HasRoomInto self.new) }
-    {
-        self.into.reserve(1)
-    }
-
-    /// Reserves capacity for one more edge out of it.
-    pub(crate) fn reserve_out(&mut self) -> Result<(), AllocError>
-        ensures same { node_in self.new ≡ node_in self.old }
-        ensures into { self.new.into ≡ self.old.into }
-        ensures room { OnOk result (HasRoomOut self.new) }
-    {
-        self.out.reserve(1)
-    }
-
-    /// Appends an edge into it.
-    pub(crate) fn push_into(&mut self, edge: Edge)
-        requires { HasRoomInto self.old }
-        ensures edges { node_in self.new ≡ into_changed (λ edges. edges ++ edge ∷ []) (node_in self.old) }
-        ensures out { self.new.out ≡ self.old.out }
-    {
-        self.into.push_reserved(edge);
-    }
-
-    /// Appends an edge out of it.
-    pub(crate) fn push_out(&mut self, edge: Edge)
-        requires { HasRoomOut self.old }
-        ensures { node_in self.new ≡ out_changed (λ edges. edges ++ edge ∷ []) (node_in self.old) }
-    {
-        self.out.push_reserved(edge);
-    }
-
-    /// Inserts an edge into it or replaces the one with its id and direction, or removes that one.
-    pub(crate) fn put_into(&mut self, scid: Scid, second: bool, edge: Option<Edge>)
-        requires room { HasRoomInto self.old }
-        requires cut { IsCut (edge_key scid second) self.old.into.items }
-        ensures edges { node_in self.new
-            ≡ into_changed (λ edges. put_at (edge_key scid second) edges edge) (node_in self.old) }
-        ensures out { self.new.out ≡ self.old.out }
-    {
-        edges::put(&mut self.into, scid, second, edge);
-    }
-
-    /// Inserts an edge out of it or replaces the one with its id and direction, or removes that one.
-    pub(crate) fn put_out(&mut self, scid: Scid, second: bool, edge: Option<Edge>)
-        requires room { HasRoomOut self.old }
-        requires cut { IsCut (edge_key scid second) self.old.out.items }
-        ensures { node_in self.new
-            ≡ out_changed (λ edges. put_at (edge_key scid second) edges edge) (node_in self.old) }
-    {
-        edges::put(&mut self.out, scid, second, edge);
     }
 }
 

@@ -14,6 +14,7 @@ ghost use Rattle.lgm_graph.specs.inner.Sound.{graph_in, node_in, nodes_in, HasRo
 ghost use Rattle.lgm_graph.specs.inner.Sound.{changed_at, checked_at, edge_changed, looked_at, is_allowed, is_not_of};
 
 use crate::edge::Edge;
+use crate::edges;
 use crate::known::Known;
 use crate::node::Node;
 use indexmap::IndexSet;
@@ -117,8 +118,8 @@ impl Nodes {
         ensures into { OnOk result (HoldsAt HasRoomInto self.new.nodes.items to) }
         ensures leaving { OnOk result (HoldsAt HasRoomOut self.new.nodes.items from) }
     {
-        self.nodes[to].reserve_into()?;
-        self.nodes[from].reserve_out()
+        self.nodes[to].into.reserve(1)?;
+        self.nodes[from].out.reserve(1)
     }
 
     /// Appends an edge at both of its nodes.
@@ -131,8 +132,8 @@ impl Nodes {
         ensures nodes { nodes_in self.new ≡ edge_changed from to (λ edges. edges ++ edge ∷ []) (nodes_in self.old) }
     {
         let copy = edge;
-        self.nodes[to].push_into(copy);
-        self.nodes[from].push_out(edge);
+        self.nodes[to].into.push_reserved(copy);
+        self.nodes[from].out.push_reserved(edge);
     }
 
     /// At both of its nodes, inserts an edge or replaces the one with its id and direction, or removes that one.
@@ -157,8 +158,8 @@ impl Nodes {
             (nodes_in self.old) }
     {
         let copy = edge;
-        self.nodes[to].put_into(scid, second, copy);
-        self.nodes[from].put_out(scid, second, edge);
+        edges::put(&mut self.nodes[to].into, scid, second, copy);
+        edges::put(&mut self.nodes[from].out, scid, second, edge);
     }
 
     /// Checks the features of a node anew, if it is numbered.

@@ -79,8 +79,8 @@ impl Overlay {
         }
     }
 
-    /// Adds an edge, which replaces the map's with its id out of its node. Of such extra edges the first counts. The
-    /// only error is out of memory, which changes nothing.
+    /// Adds an edge, which replaces the map's with its id out of its node. Of such extra edges the first counts. Out of
+    /// memory changes nothing.
     pub fn add(&mut self, edge: ExtraEdge) -> Result<(), AllocError>
         ensures added { OnOk result
             (self.new ≡ record self.old { extra = self.old.extra ++ extra_edge edge ∷ [] }) }
@@ -90,8 +90,7 @@ impl Overlay {
         Ok(())
     }
 
-    /// Adds a limit. The least limit of an edge counts, also of an extra one. The only error is out of memory, which
-    /// changes nothing.
+    /// Adds a limit. The least limit of an edge counts, also of an extra one. Out of memory changes nothing.
     pub fn limit(&mut self, limit: Limit) -> Result<(), AllocError>
         ensures added { OnOk result
             (self.new ≡ record self.old { limits = self.old.limits ++ limit ∷ [] }) }
@@ -101,8 +100,8 @@ impl Overlay {
         Ok(())
     }
 
-    /// Adds a silent node: no edge of the map that leaves it is used. Edges to it are, and extra edges out of it. The
-    /// only error is out of memory, which changes nothing.
+    /// Excludes a node: no edge of the map that leaves it is used. Edges to it are, and extra edges out of it. Out
+    /// of memory changes nothing.
     pub fn silence(&mut self, node: Point) -> Result<(), AllocError>
         ensures added { OnOk result
             (self.new ≡ record self.old { silent = self.old.silent ++ node ∷ [] }) }

@@ -12,12 +12,13 @@ ghost use Rattle.lgm_graph.specs.Overlay.{overlaid_edges};
 
 mod edge_terms;
 mod lists;
+mod overrides;
 mod points;
-mod saying;
 mod touched_node;
 mod touched_nodes;
 
 use crate::edge::Edge;
+use crate::node_table::place_in;
 use crate::overlay::Overlay;
 use crate::routing_graph::RoutingGraph;
 use crate::view::View;
@@ -26,7 +27,7 @@ use lists::{Edges, list_or, lists_into, lists_out};
 use points::Points;
 use std::alloc::{AllocError, Global};
 use std::marker::Model;
-use touched_nodes::{TouchedNodes, place_in};
+use touched_nodes::TouchedNodes;
 
 /// The view of a map over an overlay: a search reads it as it reads a view.
 ///
@@ -58,7 +59,7 @@ impl<'a> Model for OverlayView<'a> {
 }
 
 impl<'a> OverlayView<'a> {
-    /// The view over an overlay. The only error is out of memory.
+    /// The view over an overlay.
     ///
     /// It costs four bytes for each node of the view, and for each node whose edges differ a copy of their list.
     pub fn of(
@@ -77,7 +78,7 @@ impl<'a> OverlayView<'a> {
         view.nodes();
         let points = Points::of(alloc, view, overlay.extra())?;
         let mut touched = TouchedNodes::new(alloc, points.len())?;
-        touched.say_overlay(alloc, &points, overlay)?;
+        touched.apply_overlay(alloc, &points, overlay)?;
         let count = touched.as_slice().len();
         touched.touch_targets(alloc, view)?;
         let into = lists_into(alloc, &touched, view)?;

@@ -38,8 +38,7 @@ impl Model for Route {
 }
 
 impl Route {
-    /// The route of 1 to 20 hops. That they are consecutive, and that each node gets its fee, isn't
-    /// checked. The only error is out of memory.
+    /// The route of 1 to 20 hops. That they are consecutive, and that each node gets its fee, isn't checked.
     pub fn of(alloc: Global, hops: &[Hop]) -> Result<Route, AllocError>
         requires some { 1 ≤ length hops.now }
         requires few { length hops.now ≤ 20 }

@@ -7,7 +7,6 @@ ghost use Rattle.lgm_store.specs.Rows.{is_point};
 ghost use Rattle.lgm_graph.specs.Graph.{Graph, AreListed, edges_into, edges_leaving};
 
 use crate::edge::Edge;
-use crate::view::View;
 use lgm_gossip::Point;
 
 /// A graph that routes are found in: the view of a map, or one that differs from it in what a payer knows.
@@ -40,33 +39,4 @@ pub trait RoutingGraph: Drop {
     /// The edges out of the node with an index, by id and direction, including those to nodes that take no payments.
     fn edges_leaving(&self, number: u32) -> &[Edge]
         ensures { result.now ≡ edges_leaving (graph self.now) number };
-}
-
-impl RoutingGraph for View {
-    ghost graph = { λ view. view };
-
-    #[inline(always)]
-    fn nodes(&self) -> usize {
-        View::nodes(self)
-    }
-
-    #[inline(always)]
-    fn node_number(&self, point: &Point) -> Option<u32> {
-        View::node_number(self, point)
-    }
-
-    #[inline(always)]
-    fn point(&self, number: u32) -> Option<&Point> {
-        View::point(self, number)
-    }
-
-    #[inline(always)]
-    fn edges_into(&self, number: u32) -> &[Edge] {
-        View::edges_into(self, number)
-    }
-
-    #[inline(always)]
-    fn edges_leaving(&self, number: u32) -> &[Edge] {
-        View::edges_leaving(self, number)
-    }
 }

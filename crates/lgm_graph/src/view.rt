@@ -20,6 +20,7 @@ mod number_cache;
 use crate::edge::Edge;
 use crate::known::Known;
 use crate::nodes::Nodes;
+use crate::routing_graph::RoutingGraph;
 use lgm_gossip::Point;
 use lgm_store::{Map, Op, Seed};
 use std::alloc::{AllocError, Global};
@@ -55,32 +56,38 @@ impl Model for View {
     ghost invariant = { λ v. IsSound (graph_in v.parts.value.known v.parts.value.nodes) };
 }
 
-impl View {
-    /// The number of numbered points: node indices are below it. Different points have different indices, and each edge
-    /// is listed at both of its nodes.
-    pub fn nodes(&self) -> usize
-        ensures count { result ≡ length self.now.points }
-        ensures few { result < 2 ^ 32 }
-        ensures listed { AreListed self.now }
-    {
+impl RoutingGraph for View {
+    ghost graph = { λ view. view };
+
+    fn nodes(&self) -> usize {
         self.parts.nodes.points.len()
     }
 
-    /// The node index of a point, if it has one; each node of a channel in the map has. Allocates nothing.
-    pub fn node_number(&self, point: &Point) -> Option<u32>
-        ensures { result ≡ position (is_point point.now) self.now.points }
-    {
+    fn node_number(&self, point: &Point) -> Option<u32> {
         let number = self.parts.nodes.points.get_index_of(point)?;
         Some(number as u32)
     }
 
-    /// The point with a node index, if there is one.
-    pub fn point(&self, number: u32) -> Option<&Point>
-        ensures { option_copied result ≡ slice_get self.now.points number }
-    {
+    fn point(&self, number: u32) -> Option<&Point> {
         self.parts.nodes.points.get_index(number as usize)
     }
 
+    fn edges_into(&self, number: u32) -> &[Edge] {
+        match self.parts.nodes.nodes.get(number as usize) {
+            Some(node) => node.open_into(),
+            None => &[],
+        }
+    }
+
+    fn edges_leaving(&self, number: u32) -> &[Edge] {
+        match self.parts.nodes.nodes.get(number as usize) {
+            Some(node) => node.out.as_slice(),
+            None => &[],
+        }
+    }
+}
+
+impl View {
     /// Whether the node with an index takes payments: it has no announcement, or one whose even features are known.
     /// False for an index that no node has.
     pub fn takes_payments(&self, number: u32) -> bool
@@ -92,33 +99,12 @@ impl View {
         }
     }
 
-    /// The edges into the node with an index, by id and direction: none if it takes no payments or no node has the
-    /// index.
-    pub fn edges_into(&self, number: u32) -> &[Edge]
-        ensures { result.now ≡ edges_into self.now number }
-    {
-        match self.parts.nodes.nodes.get(number as usize) {
-            Some(node) => node.open_into(),
-            None => &[],
-        }
-    }
-
     /// The edges into the node with an index, by id and direction, whether or not it takes payments.
     pub(crate) fn all_into(&self, number: u32) -> &[Edge]
         ensures { result.now ≡ (node_at self.now number).into }
     {
         match self.parts.nodes.nodes.get(number as usize) {
             Some(node) => node.into.as_slice(),
-            None => &[],
-        }
-    }
-
-    /// The edges out of the node with an index, by id and direction, including those to nodes that take no payments.
-    pub fn edges_leaving(&self, number: u32) -> &[Edge]
-        ensures { result.now ≡ edges_leaving self.now number }
-    {
-        match self.parts.nodes.nodes.get(number as usize) {
-            Some(node) => node.out.as_slice(),
             None => &[],
         }
     }
@@ -185,8 +171,8 @@ impl View {
     }
 
     /// Applies an operation to a map and its view, which is then the view of the new map. It numbers at most two more
-    /// points, and a point keeps its number when its last channel is removed. The only error is out of memory, which
-    /// leaves map and view unchanged.
+    /// points, and a point keeps its number when its last channel is removed. Out of memory leaves map and view
+    /// unchanged.
     ///
     /// An update costs a search in the edges of each of its two nodes. If it enables or disables its direction, or is the
     /// first of it, the edges behind it move there, 48 bytes each. A node announcement costs one check of its features, a

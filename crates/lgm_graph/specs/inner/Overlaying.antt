@@ -11,16 +11,16 @@ use Rattle.lgm_graph.specs.declared.edge.Edge.{Edge}
 use Rattle.lgm_graph.specs.declared.overlay.Limit.{Limit}
 use Rattle.lgm_graph.specs.declared.overlay_view.edge_terms.EdgeTerms.{EdgeTerms}
 use Rattle.lgm_graph.specs.declared.overlay_view.lists.Edges.{Edges}
-use Rattle.lgm_graph.specs.declared.overlay_view.saying.Saying.{Saying}
-use Rattle.lgm_graph.specs.declared.overlay_view.saying.Saying.TheVariants.{Silent, Limited, Leaving, Entering}
+use Rattle.lgm_graph.specs.declared.overlay_view.overrides.Override.{Override}
+use Rattle.lgm_graph.specs.declared.overlay_view.overrides.Override.TheVariants.{Silent, Limited, Leaving, Entering}
 use Rattle.lgm_graph.specs.Edges.{PointEdge}
 use Rattle.lgm_graph.specs.Graph.{Graph, GraphNode, bare_node, node_at, edges_leaving, edges_with}
-use Rattle.lgm_graph.specs.Places.{at_place, used_places}
+use Rattle.lgm_graph.specs.Places.{AreByNumber, NodeTable, at_place, place_of, value_of}
 use Rattle.lgm_graph.specs.Overlay.{OverlayParts, has_key, limited, firsts, most_of}
 
--- ---- what an overlay says of the edges out of a node
+-- ---- the overrides of the edges out of a node
 
--- nothing is said of the edges with an id
+-- no overrides of the edges with an id
 abbrev pub no_terms : EdgeTerms
 no_terms = record { limit = None; is_extra = false }
 
@@ -29,21 +29,21 @@ abbrev pub least_of : Option ℕ → ℕ → ℕ
 least_of None max = max
 least_of (Some most) max = min max most
 
--- what is said with one limit more, and with an extra edge
+-- the overrides with one limit more, and with an extra edge
 abbrev pub with_limit : ℕ → EdgeTerms → EdgeTerms
 with_limit most terms = record { limit = Some (least_of terms.limit most); is_extra = terms.is_extra }
 
 abbrev pub as_extra : EdgeTerms → EdgeTerms
 as_extra terms = record { limit = terms.limit; is_extra = true }
 
--- ids, each with what is said of the edges that have it
+-- ids, each with the overrides of the edges that have it
 abbrev pub Terms : Type 0
 Terms = List (ℕ × EdgeTerms)
 
 abbrev pub terms_of : Terms → ℕ → EdgeTerms
 terms_of terms id = unwrap_or (lookup (is_at (nat_cmp id)) terms) no_terms
 
--- this is said of an id, whatever was said
+-- these overrides of an id, whatever they were
 abbrev pub with_terms : Terms → ℕ → EdgeTerms → Terms
 with_terms terms id own = insert_entry nat_cmp terms id own
 
@@ -55,124 +55,117 @@ most_in terms id max = least_of (terms_of terms id).limit max
 abbrev pub is_extra_in : Terms → ℕ → Bool
 is_extra_in terms id = (terms_of terms id).is_extra
 
--- ---- what an overlay says of a node
+-- ---- the overrides of a node
 
-pub record Said : Type 0 where
+pub record NodeOverrides : Type 0 where
   pub node : ℕ
   -- whether it is silent
   pub silent : Bool
-  -- what is said of the edges out of it
+  -- the overrides of the edges out of it
   pub terms : Terms
   -- the extra edges out of it, and into it
   pub leaving : List Edge
   pub entering : List Edge
 
--- nothing is said of a node
-abbrev pub nothing_of : ℕ → Said
+-- a node without overrides
+abbrev pub nothing_of : ℕ → NodeOverrides
 nothing_of node = record { node = node; silent = false; terms = []; leaving = []; entering = [] }
 
 -- an edge of the map out of the node, over the overlay, if it is used
-abbrev pub laid_at : Said → Edge → Option Edge
-laid_at said edge =
-    if said.silent || is_extra_in said.terms edge.scid then None
-    else Some (record edge { max = most_in said.terms edge.scid edge.max })
+abbrev pub overlaid_at : NodeOverrides → Edge → Option Edge
+overlaid_at local edge =
+    if local.silent || is_extra_in local.terms edge.scid then None
+    else Some (record edge { max = most_in local.terms edge.scid edge.max })
 
--- and what is said after one thing more
-abbrev pub heard : Said → Saying → Said
-heard said Silent = record said { silent = true }
-heard said (Limited limit) =
-    record said { terms = with_terms said.terms limit.scid (with_limit limit.most (terms_of said.terms limit.scid)) }
-heard said (Leaving edge) = record said {
-  leaving = said.leaving ++ edge ∷ [];
-  terms = with_terms said.terms edge.scid (as_extra (terms_of said.terms edge.scid));
+-- and what they are after one more
+abbrev pub applied : NodeOverrides → Override → NodeOverrides
+applied local Silent = record local { silent = true }
+applied local (Limited limit) =
+    record local { terms = with_terms local.terms limit.scid (with_limit limit.most (terms_of local.terms limit.scid)) }
+applied local (Leaving edge) = record local {
+  leaving = local.leaving ++ edge ∷ [];
+  terms = with_terms local.terms edge.scid (as_extra (terms_of local.terms edge.scid));
 }
-heard said (Entering edge) = record said { entering = said.entering ++ edge ∷ [] }
+applied local (Entering edge) = record local { entering = local.entering ++ edge ∷ [] }
 
 -- ---- the nodes that an overlay touches
 
--- by node number the place of what is said of it: from 1, or 0 if the node isn't touched
-pub record Touched : Type 0 where
-  pub places : List ℕ
-  pub nodes : List Said
+-- by node number the place of its overrides
+abbrev pub Touched : Type 0
+Touched = NodeTable NodeOverrides
 
-abbrev pub place_of : Touched → ℕ → ℕ
-place_of touched number = slice_index_or touched.places number 0
+abbrev pub overrides_at : Touched → ℕ → NodeOverrides
+overrides_at touched number = unwrap_or (value_of touched number) (nothing_of number)
 
-abbrev pub said_of : Touched → ℕ → Said
-said_of touched number = unwrap_or (at_place touched.nodes (place_of touched number)) (nothing_of number)
-
-abbrev pub laid_by : Touched → Edge → Option Edge
-laid_by touched edge = laid_at (said_of touched edge.from) edge
+abbrev pub overlaid_by : Touched → Edge → Option Edge
+overlaid_by touched edge = overlaid_at (overrides_at touched edge.from) edge
 
 -- each place is that of its node
-pub record ArePlaced (touched : Touched) : Type 0 where
-  pub own : (number k : ℕ) → place_of touched number ≡ suc k
-      → (said : Said) × (slice_get touched.nodes k ≡ Some said) × (said.node ≡ number)
-  pub count : length touched.nodes ≡ used_places touched.places
-  pub few : length touched.places < 2 ^ 32
+abbrev pub ArePlaced : Touched → Type 0
+ArePlaced touched = AreByNumber (λ (local : NodeOverrides). local.node) touched
 
 -- the extra edges over an overlay
 abbrev pub extra_over : OverlayParts → List PointEdge
 extra_over overlay = map (limited overlay.limits) (firsts overlay.extra)
 
--- what was said of all nodes: which are silent, limits, and the extra edges by the nodes that they leave and enter
-pub record Sayings : Type 0 where
+-- the overrides of all nodes: which are silent, limits, and the extra edges by the nodes that they leave and enter
+pub record Overrides : Type 0 where
   pub silent : List Point
   pub limits : List Limit
   pub leaving : List PointEdge
   pub entering : List PointEdge
 
 -- what an overlay says
-abbrev pub sayings_of : OverlayParts → Sayings
-sayings_of overlay = record {
+abbrev pub overrides_of : OverlayParts → Overrides
+overrides_of overlay = record {
   silent = overlay.silent;
   limits = overlay.limits;
   leaving = extra_over overlay;
   entering = extra_over overlay;
 }
 
--- of it, what is said of a point
-pub record IsSaid (sayings : Sayings) (points : List Point) (point : Point) (said : Said) : Type 0 where
-  pub silent : said.silent ≡ list_any (is_point point) sayings.silent
-  pub limits : (id max : ℕ) → most_in said.terms id max ≡ most_of sayings.limits id point max
-  pub extra : (id : ℕ) → is_extra_in said.terms id ≡ list_any (has_key id point) sayings.leaving
-  pub leaving : said.leaving ≡ edges_with (λ edge. edge.from) points sayings.leaving point
-  pub entering : said.entering ≡ edges_with (λ edge. edge.to) points sayings.entering point
+-- of them, those of a point
+pub record IsOverriddenAt (overrides : Overrides) (points : List Point) (point : Point) (local : NodeOverrides) : Type 0 where
+  pub silent : local.silent ≡ list_any (is_point point) overrides.silent
+  pub limits : (id max : ℕ) → most_in local.terms id max ≡ most_of overrides.limits id point max
+  pub extra : (id : ℕ) → is_extra_in local.terms id ≡ list_any (has_key id point) overrides.leaving
+  pub leaving : local.leaving ≡ edges_with (λ edge. edge.from) points overrides.leaving point
+  pub entering : local.entering ≡ edges_with (λ edge. edge.to) points overrides.entering point
 
 -- and of each of the points
-abbrev pub AreSaid : Sayings → List Point → Touched → Type 0
-AreSaid sayings points touched =
+abbrev pub AreApplied : Overrides → List Point → Touched → Type 0
+AreApplied overrides points touched =
     (number : ℕ) (point : Point) → slice_get points number ≡ Some point
-    → IsSaid sayings points point (said_of touched number)
+    → IsOverriddenAt overrides points point (overrides_at touched number)
 
--- what is said of a point changes by a saying, and of no other one
-abbrev pub AreHeard : List Point → Point → Saying → Touched → Touched → Type 0
-AreHeard points point saying old new =
+-- the overrides of a point change, and those of no other one
+abbrev pub IsAppliedAt : List Point → Point → Override → Touched → Touched → Type 0
+IsAppliedAt points point change old new =
     (number : ℕ) (other : Point) → slice_get points number ≡ Some other
-    → said_of new number ≡ (if is_point other point then heard (said_of old number) saying else said_of old number)
+    → overrides_at new number ≡ (if is_point other point then applied (overrides_at old number) change else overrides_at old number)
 
--- nothing is said of a node but that it is touched
-abbrev pub IsBare : Said → Type 0
-IsBare said = said ≡ nothing_of said.node
+-- a touched node without overrides
+abbrev pub IsBare : NodeOverrides → Type 0
+IsBare local = local ≡ nothing_of local.node
 
--- further nodes are touched, of which nothing is said
+-- further nodes are touched, without overrides
 pub record IsTouchedMore (old new : Touched) : Type 0 where
-  pub same : (number : ℕ) → said_of new number ≡ said_of old number
+  pub same : (number : ℕ) → overrides_at new number ≡ overrides_at old number
   pub kept : (number k : ℕ) → place_of old number ≡ suc k → place_of new number ≡ suc k
-  pub more : List Said
+  pub more : List NodeOverrides
   pub nodes : new.nodes ≡ old.nodes ++ more
-  pub bare : (k : ℕ) (said : Said) → slice_get more k ≡ Some said → IsBare said
+  pub bare : (k : ℕ) (local : NodeOverrides) → slice_get more k ≡ Some local → IsBare local
   pub long : length new.places ≡ length old.places
 
 -- an edge is as it was, or leads to a node that is touched
 abbrev pub LeadsTo : Touched → Edge → Type 0
-LeadsTo touched edge = (laid_by touched edge ≡ Some edge) ⊎ (place_of touched edge.to ≢ 0)
+LeadsTo touched edge = (overlaid_by touched edge ≡ Some edge) ⊎ (place_of touched edge.to ≢ 0)
 
 -- and so is each out of a touched node
 abbrev pub IsReached : Graph → Touched → ℕ → Type 0
 IsReached graph touched k =
-    (said : Said) → slice_get touched.nodes k ≡ Some said
-    → (edge : Edge) → Contains (edges_leaving graph said.node) edge → LeadsTo touched edge
+    (local : NodeOverrides) → slice_get touched.nodes k ≡ Some local
+    → (edge : Edge) → Contains (edges_leaving graph local.node) edge → LeadsTo touched edge
 
 -- and out of each of the first
 abbrev pub AreReached : Graph → Touched → ℕ → Type 0
@@ -184,8 +177,8 @@ abbrev pub edges_in : Edges → List Edge
 edges_in list = list.edges.items
 
 -- a node's extra edges, and those of the map over the overlay
-abbrev pub laid_list : Touched → List Edge → List Edge → List Edge
-laid_list touched edges extra = extra ++ filter_map (laid_by touched) edges
+abbrev pub overlaid_list : Touched → List Edge → List Edge → List Edge
+overlaid_list touched edges extra = extra ++ filter_map (overlaid_by touched) edges
 
 -- a node's own list, or one that is lent
 abbrev pub list_or : List (List Edge) → ℕ → List Edge → List Edge

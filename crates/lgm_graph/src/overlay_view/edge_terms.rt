@@ -18,7 +18,7 @@ pub(crate) struct EdgeTerms {
 }
 
 impl EdgeTerms {
-    /// Nothing is said of them.
+    /// No overrides.
     fn none() -> EdgeTerms
         ensures { result ≡ no_terms }
     {
@@ -60,7 +60,7 @@ impl EdgeTerms {
 }
 
 /// What an overlay says of the edges out of a node. A lookup costs a logarithm of how many ids it says something of.
-/// Contracts see the ids, each with what is said.
+/// Contracts see the ids, each with its overrides.
 #[derive(Drop)]
 pub(crate) struct TermsById {
     by_id: BTreeMap<u64, EdgeTerms>,
@@ -75,7 +75,7 @@ impl Model for TermsById {
 }
 
 impl TermsById {
-    /// Nothing is said. Allocates nothing.
+    /// No overrides. Allocates nothing.
     pub(super) fn new(alloc: Global) -> TermsById
         ensures { result ≡ [] }
     {
@@ -84,7 +84,7 @@ impl TermsById {
         }
     }
 
-    /// What is said of an id.
+    /// The overrides of an id.
     pub(super) fn get(&self, scid: Scid) -> EdgeTerms
         ensures { result ≡ terms_of self.now scid }
     {
@@ -94,7 +94,7 @@ impl TermsById {
         }
     }
 
-    /// Says this of an id, whatever was said. The only error is out of memory, which changes nothing.
+    /// Sets the overrides of an id. Out of memory changes nothing.
     pub(super) fn set(&mut self, scid: Scid, terms: EdgeTerms) -> Result<(), AllocError>
         ensures set { OnOk result (self.new ≡ with_terms self.old scid terms) }
         ensures stays { OnErr result (self.new ≡ self.old) }

@@ -2,10 +2,11 @@
 
 ghost use Rattle.std.specs.Prelude.{◌≡◌, ◌++◌, ◌≤◌, map, take, length, option_to_list, IfOk, OnOk};
 ghost use Rattle.lgm_graph.specs.Graph.{node_at};
-ghost use Rattle.lgm_graph.specs.inner.Overlaying.{edges_in, laid_list, list_or};
+ghost use Rattle.lgm_graph.specs.inner.Overlaying.{edges_in, overlaid_list, list_or};
 
 use super::touched_nodes::TouchedNodes;
 use crate::edge::Edge;
+use crate::routing_graph::RoutingGraph;
 use crate::view::View;
 use std::alloc::{AllocError, Global};
 
@@ -27,20 +28,20 @@ fn push(edges: &mut Vec<Edge>, edge: Option<Edge>) -> Result<(), AllocError>
 }
 
 /// Extra edges, and those of a list over an overlay.
-fn laid(
+fn overlaid(
     alloc: Global,
     touched: &TouchedNodes,
     list: &[Edge],
     extra: &[Edge],
 ) -> Result<Edges, AllocError>
-    ensures { IfOk result (λ laid. edges_in laid ≡ laid_list touched.now list.now extra.now) }
+    ensures { IfOk result (λ overlaid. edges_in overlaid ≡ overlaid_list touched.now list.now extra.now) }
 {
     let mut edges = Vec::with_capacity(alloc, list.len().saturating_add(extra.len()))?;
     for edge in extra {
         edges.push(*edge)?;
     }
     for edge in list {
-        push(&mut edges, touched.lay(edge))?;
+        push(&mut edges, touched.overlaid(edge))?;
     }
     Ok(Edges { edges })
 }
@@ -52,12 +53,12 @@ pub(super) fn lists_into(
     view: &View,
 ) -> Result<Vec<Edges>, AllocError>
     ensures { IfOk result (λ lists. map edges_in lists.items
-        ≡ map (λ said. laid_list touched.now (node_at view.now said.node).into said.entering) touched.now.nodes) }
+        ≡ map (λ local. overlaid_list touched.now (node_at view.now local.node).into local.entering) touched.now.nodes) }
 {
     let mut lists = Vec::new(alloc);
     for node in touched.as_slice() {
         let list = view.all_into(node.node());
-        lists.push(laid(alloc, touched, list, node.entering())?)?;
+        lists.push(overlaid(alloc, touched, list, node.entering())?)?;
     }
     Ok(lists)
 }
@@ -71,13 +72,13 @@ pub(super) fn lists_out(
 ) -> Result<Vec<Edges>, AllocError>
     requires { count ≤ length touched.now.nodes }
     ensures { IfOk result (λ lists. map edges_in lists.items
-        ≡ map (λ said. laid_list touched.now (node_at view.now said.node).out said.leaving)
+        ≡ map (λ local. overlaid_list touched.now (node_at view.now local.node).out local.leaving)
         (take count touched.now.nodes)) }
 {
     let mut lists = Vec::new(alloc);
     for node in &touched.as_slice()[..count] {
         let list = view.edges_leaving(node.node());
-        lists.push(laid(alloc, touched, list, node.leaving())?)?;
+        lists.push(overlaid(alloc, touched, list, node.leaving())?)?;
     }
     Ok(lists)
 }

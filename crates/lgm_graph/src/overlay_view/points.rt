@@ -10,6 +10,7 @@ ghost use Rattle.lgm_graph.specs.Overlay.{extra_edge};
 ghost use Rattle.lgm_graph.specs.inner.Walk.{KeepsNumbers};
 
 use crate::overlay::ExtraEdge;
+use crate::routing_graph::RoutingGraph;
 use crate::view::View;
 use indexmap::IndexSet;
 use lgm_gossip::Point;

@@ -1,25 +1,23 @@
-//! What an overlay says of a node.
+//! The overrides of a node.
 
 ghost use Rattle.std.specs.Prelude.{◌≡◌, OnOk};
-ghost use Rattle.lgm_graph.specs.declared.overlay_view.saying.Saying.TheVariants.{Limited, Leaving};
-ghost use Rattle.lgm_graph.specs.inner.Overlaying.{nothing_of, is_extra_in, most_in, laid_at, heard};
+ghost use Rattle.lgm_graph.specs.inner.Overlaying.{nothing_of, is_extra_in, most_in, overlaid_at, applied};
 
 use super::edge_terms::TermsById;
-use super::saying::Saying;
+use super::overrides::Override;
 use crate::edge::Edge;
-use crate::overlay::Limit;
 use lgm_gossip::Scid;
 use std::alloc::{AllocError, Global};
 use std::marker::Model;
 
-/// What an overlay says of a node.
+/// The overrides of a node.
 #[derive(Drop)]
 pub(crate) struct TouchedNode {
     /// Its number.
     node: u32,
     /// Whether it is silent.
     silent: bool,
-    /// What is said of the edges out of it, by their ids.
+    /// The overrides of the edges out of it, by their ids.
     terms: TermsById,
     /// The extra edges out of it.
     leaving: Vec<Edge>,
@@ -28,9 +26,9 @@ pub(crate) struct TouchedNode {
 }
 
 impl Model for TouchedNode {
-    ghost use Rattle.lgm_graph.specs.inner.Overlaying.{Said};
+    ghost use Rattle.lgm_graph.specs.inner.Overlaying.{NodeOverrides};
 
-    ghost Value = { Said };
+    ghost Value = { NodeOverrides };
 
     ghost view = { λ t. record {
       node = t.node;
@@ -42,7 +40,7 @@ impl Model for TouchedNode {
 }
 
 impl TouchedNode {
-    /// A node of which nothing is said.
+    /// A node without overrides.
     pub(super) fn new(alloc: Global, node: u32) -> TouchedNode
         ensures { result ≡ nothing_of node }
     {
@@ -76,37 +74,24 @@ impl TouchedNode {
         self.entering.as_slice()
     }
 
-    /// Takes in one thing more that is said of it.
-    pub(super) fn hear(&mut self, saying: Saying) -> Result<(), AllocError>
-        ensures heard { OnOk result (self.new ≡ heard self.old saying) }
+    /// Applies one more override.
+    pub(super) fn apply(&mut self, change: Override) -> Result<(), AllocError>
+        ensures applied { OnOk result (self.new ≡ applied self.old change) }
         ensures node { self.new.node ≡ self.old.node }
     {
-        match saying {
-            Saying::Silent => self.silent = true,
-            Saying::Limited(limit) => return self.limit(limit),
-            Saying::Leaving(edge) => return self.leave(edge),
-            Saying::Entering(edge) => self.entering.push(edge)?,
+        match change {
+            Override::Silent => self.silent = true,
+            Override::Limited(limit) => {
+                let own = self.terms.get(limit.scid);
+                self.terms.set(limit.scid, own.limited(limit.most))?;
+            }
+            Override::Leaving(edge) => {
+                let own = self.terms.get(edge.scid);
+                self.terms.set(edge.scid, own.extra())?;
+                self.leaving.push(edge)?;
+            }
+            Override::Entering(edge) => self.entering.push(edge)?,
         }
-        Ok(())
-    }
-
-    /// Takes in a limit.
-    fn limit(&mut self, limit: Limit) -> Result<(), AllocError>
-        ensures limited { OnOk result (self.new ≡ heard self.old (Limited limit)) }
-        ensures node { self.new.node ≡ self.old.node }
-    {
-        let own = self.terms.get(limit.scid);
-        self.terms.set(limit.scid, own.limited(limit.most))
-    }
-
-    /// Takes in an extra edge out of it.
-    fn leave(&mut self, edge: Edge) -> Result<(), AllocError>
-        ensures left { OnOk result (self.new ≡ heard self.old (Leaving edge)) }
-        ensures node { self.new.node ≡ self.old.node }
-    {
-        let own = self.terms.get(edge.scid);
-        self.terms.set(edge.scid, own.extra())?;
-        self.leaving.push(edge)?;
         Ok(())
     }
 
@@ -125,8 +110,8 @@ impl TouchedNode {
     }
 
     /// An edge of the map out of it, over the overlay, if it is used.
-    pub(super) fn lay(&self, edge: &Edge) -> Option<Edge>
-        ensures { result ≡ laid_at self.now edge.now }
+    pub(super) fn overlaid(&self, edge: &Edge) -> Option<Edge>
+        ensures { result ≡ overlaid_at self.now edge.now }
     {
         let terms = self.terms.get(edge.scid);
         if self.silent || terms.is_extra {

@@ -4,19 +4,21 @@ ghost use Rattle.std.specs.Prelude.{◌≡◌, ◌≢◌, ◌++◌, ◌∷◌, [
 ghost use Rattle.std.specs.Prelude.{length, slice_get, slice_index_or, IfOk, OnOk};
 ghost use Rattle.std.specs.Option.{option_copied};
 ghost use Rattle.lgm_graph.specs.Graph.{edges_leaving};
-ghost use Rattle.lgm_graph.specs.inner.Overlaying.{Said, Touched, ArePlaced, IsTouchedMore, LeadsTo, IsReached, AreReached, heard};
-ghost use Rattle.lgm_graph.specs.Places.{at_place};
-ghost use Rattle.lgm_graph.specs.inner.Overlaying.{place_of, said_of, laid_by, most_in, is_extra_in};
+ghost use Rattle.lgm_graph.specs.inner.Overlaying.{NodeOverrides, Touched, ArePlaced, IsTouchedMore, LeadsTo, IsReached, AreReached, applied};
+ghost use Rattle.lgm_graph.specs.Places.{at_place, place_of};
+ghost use Rattle.lgm_graph.specs.inner.Overlaying.{overrides_at, overlaid_by, most_in, is_extra_in};
 
-use super::saying::Saying;
+use super::overrides::Override;
 use super::touched_node::TouchedNode;
 use crate::edge::Edge;
+use crate::node_table::{no_places, place_in};
+use crate::routing_graph::RoutingGraph;
 use crate::view::View;
 use lgm_gossip::Scid;
 use std::alloc::{AllocError, Global};
 use std::marker::Model;
 
-/// The nodes that an overlay touches: those of which it says something, and then those to which edges lead that it
+/// The nodes that an overlay touches: those that it overrides, and then those to which edges lead that it
 /// changes. A table finds them by their numbers.
 #[derive(Drop)]
 pub(crate) struct TouchedNodes {
@@ -33,25 +35,6 @@ impl Model for TouchedNodes {
     ghost view = { λ t. record { places = t.places.items; nodes = t.nodes.items } };
 
     ghost invariant = { λ t. ArePlaced (record { places = t.places.items; nodes = t.nodes.items }) };
-}
-
-/// The place of a node, from 1, or 0 if it has none.
-#[inline(always)]
-pub(super) fn place_in(places: &[u32], number: u32) -> u32
-    ensures { result ≡ slice_index_or places.now number 0 }
-{
-    match places.get(number as usize) {
-        Some(place) => *place,
-        None => 0,
-    }
-}
-
-/// This many numbers without places.
-fn no_places(alloc: Global, count: usize) -> Result<Vec<u32>, AllocError>
-    ensures long { IfOk result (λ places. length places.items ≡ count) }
-    ensures none { IfOk result (λ places. (number : ℕ) → slice_index_or places.items number 0 ≡ 0) }
-{
-    vec![in alloc; 0; count]
 }
 
 impl TouchedNodes {
@@ -96,7 +79,7 @@ impl TouchedNodes {
 
     /// What an edge carries at most.
     pub(super) fn most(&self, edge: &Edge) -> u64
-        ensures { result ≡ most_in (said_of self.now edge.now.from).terms edge.now.scid edge.now.max }
+        ensures { result ≡ most_in (overrides_at self.now edge.now.from).terms edge.now.scid edge.now.max }
     {
         let from = edge.from;
         match self.get(from) {
@@ -107,7 +90,7 @@ impl TouchedNodes {
 
     /// Whether an extra edge out of a node has an id.
     pub(super) fn names(&self, number: u32, scid: Scid) -> bool
-        ensures { result ≡ is_extra_in (said_of self.now number).terms scid }
+        ensures { result ≡ is_extra_in (overrides_at self.now number).terms scid }
     {
         match self.get(number) {
             Some(node) => node.names(scid),
@@ -116,21 +99,21 @@ impl TouchedNodes {
     }
 
     /// An edge of the map over the overlay, if it is used.
-    pub(super) fn lay(&self, edge: &Edge) -> Option<Edge>
-        ensures { result ≡ laid_by self.now edge.now }
+    pub(super) fn overlaid(&self, edge: &Edge) -> Option<Edge>
+        ensures { result ≡ overlaid_by self.now edge.now }
     {
         match self.get(edge.from) {
-            Some(node) => node.lay(edge),
+            Some(node) => node.overlaid(edge),
             None => Some(*edge),
         }
     }
 
     /// Whether an edge of the map isn't as it was.
     fn changes(&self, edge: &Edge) -> bool
-        ensures { result ≡ false → laid_by self.now edge.now ≡ Some edge.now }
+        ensures { result ≡ false → overlaid_by self.now edge.now ≡ Some edge.now }
     {
-        match self.lay(edge) {
-            Some(laid) => laid.max != edge.max,
+        match self.overlaid(edge) {
+            Some(overlaid) => overlaid.max != edge.max,
             None => true,
         }
     }
@@ -152,20 +135,20 @@ impl TouchedNodes {
         Ok(index)
     }
 
-    /// Takes in one thing more that is said of a node.
-    pub(super) fn say(
+    /// Applies one more override to a node.
+    pub(super) fn apply(
         &mut self,
         alloc: Global,
         number: u32,
-        saying: Saying,
+        change: Override,
     ) -> Result<(), AllocError>
         requires { number < length self.old.places }
         ensures long { OnOk result (length self.new.places ≡ length self.old.places) }
-        ensures own { OnOk result (said_of self.new number ≡ heard (said_of self.old number) saying) }
-        ensures others { OnOk result ((other : ℕ) → other ≢ number → said_of self.new other ≡ said_of self.old other) }
+        ensures own { OnOk result (overrides_at self.new number ≡ applied (overrides_at self.old number) change) }
+        ensures others { OnOk result ((other : ℕ) → other ≢ number → overrides_at self.new other ≡ overrides_at self.old other) }
     {
         let index = self.touch(alloc, number)?;
-        self.nodes[index].hear(saying)?;
+        self.nodes[index].apply(change)?;
         Ok(())
     }
 

@@ -13,7 +13,7 @@ use lgm_gossip::Point;
 use lgm_store::{Map, Seed};
 use std::alloc::{AllocError, Global};
 
-/// Adds the nodes of the channels of a node to some points. The only error is out of memory.
+/// Adds the nodes of the channels of a node to some points.
 fn add_ends(
     alloc: Global,
     map: &Map,

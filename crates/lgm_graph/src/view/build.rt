@@ -22,7 +22,7 @@ use lgm_store::{ChannelInfo, Map};
 use std::alloc::{AllocError, Global};
 
 impl View {
-    /// The view of a map, with the known feature bits, which are copied. The only error is out of memory.
+    /// The view of a map, with the known feature bits, which are copied.
     pub fn of(alloc: Global, map: &Map, known: &Known) -> Result<View, AllocError>
         requires { length map.now.channels ≤ 2000000000 }
         ensures beside { IfOk result (IsGraphOf map.now) }

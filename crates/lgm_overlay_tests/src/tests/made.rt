@@ -27,7 +27,6 @@ pub const NOTHING: Parts = Parts {
     silent: &[],
 };
 
-/// An extra edge.
 fn extra_edge(way: &Way) -> ExtraEdge {
     ExtraEdge {
         scid: Scid::from_u64(way.id),

@@ -55,7 +55,6 @@ pub fn payment(payer: u16, payee: u16) -> Request {
     }
 }
 
-/// The hops of a route.
 fn hops_of(alloc: Global, route: &Route) -> Result<Vec<Told>, AllocError> {
     let mut hops = Vec::new(alloc);
     for hop in route.as_slice() {

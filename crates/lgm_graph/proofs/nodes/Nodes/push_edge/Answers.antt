@@ -1,7 +1,8 @@
 use Rattle.std.proofs.Common.{◌∙◌, ◌<◌, ◌++◌, ◌∷◌, [], ap, arith, length, set, List}
 use Rattle.std.proofs.lemmas.List.{length-set}
 use Rattle.lgm_graph.specs.declared.edge.Edge.{Edge}
-use Rattle.lgm_graph.specs.inner.Sound.{change_at, into_changed, out_changed}
+use Rattle.lgm_graph.specs.declared.node.Node.{Node}
+use Rattle.lgm_graph.specs.inner.Sound.{change_at, into_changed, node_in, out_changed}
 use Rattle.lgm_graph.proofs.Places.{node_edit}
 use Rattle.lgm_graph.proofs.nodes.Nodes.push_edge.Goals as goal
 
@@ -9,8 +10,12 @@ pub returns-clause-nodes : goal.returns-clause-nodes
 returns-clause-nodes c =
     let items = c.args.self.now.nodes.items in
     let change : List Edge → List Edge = λ edges. edges ++ c.args.edge ∷ [] in
-    let mid = set items c.args.to c.push_into.new.self in
-    let within : c.args.from < length mid = omega (arith, c.requires.from, length-set items c.args.to c.push_into.new.self) in
-    node_edit mid c.args.from c.index_mut-2.result.now c.push_out.new.self within c.index_mut-2.ensures.value (out_changed change) c.push_out.ensures
-    ∙ ap (change_at c.args.from (out_changed change)) (node_edit items c.args.to c.index_mut.result.now c.push_into.new.self c.requires.to
-    c.index_mut.ensures.value (into_changed change) c.push_into.ensures.edges)
+    let at_to = c.index_mut.result.now in
+    let at_from = c.index_mut-2.result.now in
+    let to : Node = record at_to { into = c.push_reserved.new.self } in
+    let from : Node = record at_from { out = c.push_reserved-2.new.self } in
+    let within : c.args.from < length (set items c.args.to to) = omega (arith, c.requires.from, length-set items c.args.to to) in
+    node_edit (set items c.args.to to) c.args.from at_from from within c.index_mut-2.ensures.value (out_changed change)
+    (ap (λ (edges : List Edge). out_changed (λ _. edges) (node_in at_from)) c.push_reserved-2.ensures.items)
+    ∙ ap (change_at c.args.from (out_changed change)) (node_edit items c.args.to at_to to c.requires.to c.index_mut.ensures.value
+    (into_changed change) (ap (λ (edges : List Edge). into_changed (λ _. edges) (node_in at_to)) c.push_reserved.ensures.items))

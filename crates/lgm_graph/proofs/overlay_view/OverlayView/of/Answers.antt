@@ -4,7 +4,7 @@ use Rattle.std.specs.List.Sorted.{IsPermutation}
 use Rattle.lgm_graph.specs.declared.edge.Edge.{Edge}
 use Rattle.lgm_graph.specs.Overlay.{overlaid_edges}
 use Rattle.lgm_graph.specs.Graph.{IsJoined, node_at, point_edges}
-use Rattle.lgm_graph.specs.inner.Overlaying.{edges_in, graph_over, laid_list}
+use Rattle.lgm_graph.specs.inner.Overlaying.{edges_in, graph_over, overlaid_list}
 use Rattle.lgm_graph.specs.inner.Sound.{IsSound}
 use Rattle.lgm_graph.proofs.OverlayViewLaws.{is_sound, is_once}
 use Rattle.lgm_graph.proofs.overlay_view.OverlayView.of.Goals as goal
@@ -12,12 +12,12 @@ use Rattle.lgm_graph.proofs.overlay_view.OverlayView.of.Goals as goal
 joined : (c : goal.After-into_places) → AllByRecursion (IsJoined c.in_ok-points.points) c.args.overlay.now.extra
 joined c = subst (AllByRecursion (IsJoined c.in_ok-points.points)) c.extra.ensures c.in_ok-points.ensures.joined
 
--- the lists of the nodes of which something was said
+-- the lists of the nodes with overrides
 out : (c : goal.After-into_places) → map edges_in c.in_ok-out.out.items
-    ≡ map (λ said. laid_list c.touch_targets.new.self (node_at c.args.view.now said.node).out said.leaving)
-    (take (length c.say_overlay.new.self.nodes) c.touch_targets.new.self.nodes)
+    ≡ map (λ local. overlaid_list c.touch_targets.new.self (node_at c.args.view.now local.node).out local.leaving)
+    (take (length c.apply_overlay.new.self.nodes) c.touch_targets.new.self.nodes)
 out c = c.in_ok-out.ensures
-    ∙ ap (λ n. map (λ said. laid_list c.touch_targets.new.self (node_at c.args.view.now said.node).out said.leaving)
+    ∙ ap (λ n. map (λ local. overlaid_list c.touch_targets.new.self (node_at c.args.view.now local.node).out local.leaving)
     (take n c.touch_targets.new.self.nodes)) (ap length c.as_slice-count.ensures.nodes)
 
 pub invariant_of-result : goal.invariant_of-result
@@ -28,7 +28,7 @@ invariant_of-result c =
     let lists : List (List Edge) = map edges_in c.in_ok-out.out.items in
     subst (λ ps. IsSound (graph_over c.args.view.now c.in_ok-points.points ps into lists)) (sym c.into_places.ensures.places)
     (is_sound c.args.overlay.now c.args.view.now c.in_ok-points.points further.0 further.1 c.len.ensures.distinct c.nodes.ensures.listed.unique (joined c)
-    c.say_overlay.new.self c.touch_targets.new.self c.into_places.ensures.placed c.in_ok-touch_targets.ensures.more c.in_ok-say_overlay.ensures.said
+    c.apply_overlay.new.self c.touch_targets.new.self c.into_places.ensures.placed c.in_ok-touch_targets.ensures.more c.in_ok-apply_overlay.ensures.applied
     c.in_ok-touch_targets.ensures.reached into lists c.in_ok-into.ensures (out c) c.is_sound.ensures few)
 
 pub returns-clause-edges : goal.returns-clause-edges
@@ -39,5 +39,5 @@ returns-clause-edges c = λ rows ended beside.
     subst (λ ps. IsPermutation (overlaid_edges c.args.view.now.known rows c.args.overlay.now)
     (point_edges (graph_over c.args.view.now c.in_ok-points.points ps into lists))) (sym c.into_places.ensures.places)
     (is_once c.args.overlay.now c.args.view.now c.in_ok-points.points further.0 further.1 c.len.ensures.distinct c.nodes.ensures.listed.unique (joined c)
-    c.say_overlay.new.self c.touch_targets.new.self c.into_places.ensures.placed c.in_ok-touch_targets.ensures.more c.in_ok-say_overlay.ensures.said
+    c.apply_overlay.new.self c.touch_targets.new.self c.into_places.ensures.placed c.in_ok-touch_targets.ensures.more c.in_ok-apply_overlay.ensures.applied
     c.in_ok-touch_targets.ensures.reached into lists c.in_ok-into.ensures (out c) rows ended beside)

@@ -1,6 +1,8 @@
 use Rattle.std.proofs.Common.{◌≡◌, ◌∙◌, ◌^◌, rules, ◌<◌, ◌+◌, ◌-◌, ℕ, zero, suc, length, set, refl, sym, ap, subst, arith}
-use Rattle.lgm_graph.specs.inner.Overlaying.{Touched, IsTouchedMore, place_of}
-use Rattle.lgm_graph.proofs.TouchedNodeLaws.{place_within, few_nodes, touched_placed, touched_more}
+use Rattle.lgm_graph.specs.inner.Overlaying.{Touched, IsTouchedMore, nothing_of}
+use Rattle.lgm_graph.specs.Places.{place_of}
+use Rattle.lgm_graph.proofs.PlaceLaws.{place_within, few_nodes}
+use Rattle.lgm_graph.proofs.TouchedNodeLaws.{touched_placed, touched_more}
 use Rattle.lgm_graph.proofs.overlay_view.touched_nodes.TouchedNodes.touch.Goals as goal
 
 -- the node has no place so far
@@ -13,7 +15,7 @@ within_in now old number same lt = subst (λ (t : Touched). number < length t.pl
 few : (c : goal.In_ok-push) → c.len-index.result + 1 < 2 ^ 32
 few c =
     let now : Touched = record { places = c.self.inside.places.items; nodes = c.self.inside.nodes.items } in
-    let fits = few_nodes now c.self.invariant c.args.number (within_in now c.args.self.now c.args.number c.self.view_is c.requires)
+    let fits = few_nodes now c.self.invariant (nothing_of c.args.number) (within_in now c.args.self.now c.args.number c.self.view_is c.requires)
     (new_in now c.args.self.now c.args.number c.place-place.result c.self.view_is c.place-place.ensures c.if-place-ne0.false) in
     let index : c.len-index.result ≡ length now.nodes = search rules in
     omega (arith, fits, index)

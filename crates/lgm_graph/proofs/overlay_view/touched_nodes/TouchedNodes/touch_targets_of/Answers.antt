@@ -4,7 +4,7 @@ use Rattle.std.proofs.lemmas.List.{take_all}
 use Rattle.std.proofs.lemmas.Option.{get_or_from_slice_get}
 use Rattle.lgm_graph.specs.declared.edge.Edge.{Edge}
 use Rattle.lgm_graph.specs.Graph.{edges_leaving}
-use Rattle.lgm_graph.specs.inner.Overlaying.{Said, Touched, LeadsTo}
+use Rattle.lgm_graph.specs.inner.Overlaying.{NodeOverrides, Touched, LeadsTo}
 use Rattle.lgm_graph.proofs.Further.{slice_left}
 use Rattle.lgm_graph.proofs.TouchedNodeLaws.{more_again, one_leading, reached_at}
 use Rattle.lgm_graph.proofs.overlay_view.touched_nodes.TouchedNodes.touch_targets_of.Goals as goal
@@ -35,10 +35,10 @@ returns-clause-reached c =
     subst (AllByRecursion (LeadsTo new)) (take_all c.loop-edge.edge-index edges c.loop-edge-test.false ∙ c.edges_leaving-edge-items.ensures) c.loop-edge.invariant.leading in
     let within : c.args.index < length new.nodes = omega (arith, c.requires.within, ap length more.nodes, length-append old.nodes more.more) in
     reached_at c.args.view.now new c.args.index c.node-node.result within
-    (λ said is.
-    let was : slice_get old.nodes c.args.index ≡ Some said =
+    (λ local is.
+    let was : slice_get old.nodes c.args.index ≡ Some local =
     sym (slice_left old.nodes more.more c.args.index c.requires.within) ∙ ap (λ l. slice_get l c.args.index) (sym more.nodes) ∙ is in
-    let own : get_or old.nodes c.args.index c.index.result.now ≡ said = get_or_from_slice_get old.nodes c.args.index said c.index.result.now was in
+    let own : get_or old.nodes c.args.index c.index.result.now ≡ local = get_or_from_slice_get old.nodes c.args.index local c.index.result.now was in
     let read : c.index.result.now ≡ get_or old.nodes c.args.index c.index.result.now =
     c.index.ensures ∙ ap (λ (t : Touched). get_or t.nodes c.args.index c.index.result.now) c.self.view_is in
-    ap (λ (s : Said). s.node) (sym own ∙ sym read) ∙ sym c.node-node.ensures) all
+    ap (λ (s : NodeOverrides). s.node) (sym own ∙ sym read) ∙ sym c.node-node.ensures) all

@@ -14,41 +14,41 @@ use Rattle.lgm_graph.specs.declared.edge.Edge.{Edge}
 use Rattle.lgm_graph.specs.Edges.{PointEdge}
 use Rattle.lgm_graph.specs.Graph.{GraphNode, Shows, bare_node, edges_with, node_with, number_of, IsNumbered, IsJoined, numbered_in}
 use Rattle.lgm_graph.specs.Overlay.{OverlayParts, is_named, is_used, with_first, limited}
-use Rattle.lgm_graph.specs.inner.Overlaying.{Touched, IsSaid, AreSaid, sayings_of, is_extra_in, laid_by, said_of}
+use Rattle.lgm_graph.specs.inner.Overlaying.{Touched, IsOverriddenAt, AreApplied, overrides_of, is_extra_in, overlaid_by, overrides_at}
 use Rattle.lgm_graph.proofs.Further.{number_left, slice_left}
 use Rattle.lgm_graph.proofs.NewNumberLaws.{number_at}
 use Rattle.lgm_graph.proofs.Places.{get_map}
-use Rattle.lgm_graph.proofs.SayingLaws.{slice_number, named_said}
+use Rattle.lgm_graph.proofs.OverrideLaws.{slice_number, named_applied}
 use Rattle.lgm_graph.proofs.ListedEdgeLaws.{map_alike, none_at}
 
--- ---- what is said of the node that an edge leaves
+-- ---- the overrides of the node that an edge leaves
 
-module _ (overlay : OverlayParts) (points : List Point) (t : Touched) (said : AreSaid (sayings_of overlay) points t) where
+module _ (overlay : OverlayParts) (points : List Point) (t : Touched) (local : AreApplied (overrides_of overlay) points t) where
   -- the edge over the overlay, if it is used
   abbrev pub laid_edge : PointEdge → Option Edge
   laid_edge edge = cond (is_used overlay edge) (Some (numbered_in points (limited overlay.limits edge))) None
 
-  pub laid_number : (edge : PointEdge) → IsJoined points edge → laid_by t (numbered_in points edge) ≡ laid_edge edge
+  pub laid_number : (edge : PointEdge) → IsJoined points edge → overlaid_by t (numbered_in points edge) ≡ laid_edge edge
   laid_number edge both = by (list_any (is_point edge.from) overlay.silent) refl (is_named overlay.extra edge) refl
     where
-      at : IsSaid (sayings_of overlay) points edge.from (said_of t (number_of points edge.from))
-      at = said (number_of points edge.from) edge.from (slice_number points edge.from both.0)
+      at : IsOverriddenAt (overrides_of overlay) points edge.from (overrides_at t (number_of points edge.from))
+      at = local (number_of points edge.from) edge.from (slice_number points edge.from both.0)
 
-      ids : is_extra_in (said_of t (number_of points edge.from)).terms edge.scid ≡ is_named overlay.extra edge
-      ids = named_said overlay edge points t said both.0
+      ids : is_extra_in (overrides_at t (number_of points edge.from)).terms edge.scid ≡ is_named overlay.extra edge
+      ids = named_applied overlay edge points t local both.0
 
       by : (s : Bool) → list_any (is_point edge.from) overlay.silent ≡ s → (n : Bool) → is_named overlay.extra edge ≡ n
-          → laid_by t (numbered_in points edge) ≡ laid_edge edge
-      by true s n is = let heard = at.silent ∙ s in rw (heard, s) refl
-      by false s true is = let heard = at.silent ∙ s in rw (heard, ids ∙ is, s, is) refl
+          → overlaid_by t (numbered_in points edge) ≡ laid_edge edge
+      by true s n is = let applied = at.silent ∙ s in rw (applied, s) refl
+      by false s true is = let applied = at.silent ∙ s in rw (applied, ids ∙ is, s, is) refl
       by false s false is =
-          let heard = at.silent ∙ s in
-          rw (heard, ids ∙ is, s, is)
+          let applied = at.silent ∙ s in
+          rw (applied, ids ∙ is, s, is)
           (ap (λ (m : ℕ). let e : Option Edge = Some (record (numbered_in points edge) { max = m }) in e) (at.limits edge.scid edge.max))
 
   pub laid_edges : (end : PointEdge → Point) → ((e : PointEdge) → end (limited overlay.limits e) ≡ end e)
       → (edges : List PointEdge) → AllByRecursion (IsJoined points) edges → (p : Point)
-      → filter_map (laid_by t) (edges_with end points edges p)
+      → filter_map (overlaid_by t) (edges_with end points edges p)
       ≡ edges_with end points (map (limited overlay.limits) (filter (is_used overlay) edges)) p
   laid_edges end same [] joined p = refl
   laid_edges end same (e ∷ es) joined p =
@@ -60,18 +60,18 @@ module _ (overlay : OverlayParts) (points : List Point) (t : Touched) (said : Ar
       kept : List PointEdge
       kept = map (limited overlay.limits) (filter (is_used overlay) es)
 
-      by : filter_map (laid_by t) (map (numbered_in points) left) ≡ map (numbered_in points) (filter (λ d. is_point p (end d)) kept)
+      by : filter_map (overlaid_by t) (map (numbered_in points) left) ≡ map (numbered_in points) (filter (λ d. is_point p (end d)) kept)
           → (b : Bool) → is_point p (end e) ≡ b → (u : Bool) → is_used overlay e ≡ u
-          → filter_map (laid_by t) (map (numbered_in points) (cond (is_point p (end e)) (e ∷ left) left))
+          → filter_map (overlaid_by t) (map (numbered_in points) (cond (is_point p (end e)) (e ∷ left) left))
           ≡ map (numbered_in points) (filter (λ d. is_point p (end d))
           (map (limited overlay.limits) (cond (is_used overlay e) (e ∷ filter (is_used overlay) es) (filter (is_used overlay) es))))
       by rest true b true u =
-          let laid : laid_by t (numbered_in points e) ≡ Some (numbered_in points (limited overlay.limits e)) = laid_number e joined.0 ∙ rw u refl in
+          let overlaid : overlaid_by t (numbered_in points e) ≡ Some (numbered_in points (limited overlay.limits e)) = laid_number e joined.0 ∙ rw u refl in
           let own : is_point p (end (limited overlay.limits e)) ≡ true = ap (is_point p) (same e) ∙ b in
-          rw (b, u, laid, own) (ap (λ (ls : List Edge). numbered_in points (limited overlay.limits e) ∷ ls) rest)
+          rw (b, u, overlaid, own) (ap (λ (ls : List Edge). numbered_in points (limited overlay.limits e) ∷ ls) rest)
       by rest true b false u =
-          let laid : laid_by t (numbered_in points e) ≡ None = laid_number e joined.0 ∙ rw u refl in
-          rw (b, u, laid) rest
+          let overlaid : overlaid_by t (numbered_in points e) ≡ None = laid_number e joined.0 ∙ rw u refl in
+          rw (b, u, overlaid) rest
       by rest false b true u =
           let own : is_point p (end (limited overlay.limits e)) ≡ false = ap (is_point p) (same e) ∙ b in
           rw (b, u, own) rest

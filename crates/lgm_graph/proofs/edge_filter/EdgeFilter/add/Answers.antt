@@ -1,7 +1,7 @@
 use Rattle.std.proofs.Common.{◌≡◌, ◌/◌, ◌<◌, ◌∙◌, List, ℕ, length, rules, sym, ap, arith}
 use Rattle.lgm_graph.specs.inner.Filtering.{class_of, bit_of}
 use Rattle.lgm_graph.proofs.FilterLaws.{marked, marked_here, marked_kept}
-use Rattle.lgm_graph.proofs.edge_filter.EdgeFilter.note.Goals as goal
+use Rattle.lgm_graph.proofs.edge_filter.EdgeFilter.add.Goals as goal
 
 pub returns-clause-here : goal.returns-clause-here
 returns-clause-here c =

@@ -2,7 +2,7 @@ use Rattle.std.proofs.Common.{subst}
 use Rattle.lgm_graph.specs.Graph.{AreListed}
 use Rattle.lgm_graph.proofs.NodeListLaws.{are_listed}
 use Rattle.lgm_graph.proofs.view.Opened.{graph_of, opened}
-use Rattle.lgm_graph.proofs.view.View.nodes.Goals as goal
+use Rattle.lgm_graph.proofs.view.ViewRoutingGraph.nodes.Goals as goal
 
 pub returns-clause-listed : goal.returns-clause-listed
 returns-clause-listed c =

@@ -1,11 +1,11 @@
-//! What an overlay says of nodes, one thing after the other.
+//! The overrides of nodes, one after the other.
 
 ghost use Rattle.std.specs.Prelude.{◌≡◌, ℕ, ◌++◌, ◌∷◌, [], length, OnOk};
 ghost use Rattle.std.specs.List.{AllByRecursion};
-ghost use Rattle.lgm_graph.specs.declared.overlay_view.saying.Saying.TheVariants.{Leaving, Entering};
 ghost use Rattle.lgm_graph.specs.Graph.{IsJoined, numbered_as};
 ghost use Rattle.lgm_graph.specs.Overlay.{OverlayParts, extra_edge};
-ghost use Rattle.lgm_graph.specs.inner.Overlaying.{AreSaid, AreHeard, place_of, sayings_of};
+ghost use Rattle.lgm_graph.specs.inner.Overlaying.{AreApplied, IsAppliedAt, overrides_of};
+ghost use Rattle.lgm_graph.specs.Places.{place_of};
 
 use super::points::Points;
 use super::touched_nodes::TouchedNodes;
@@ -14,9 +14,9 @@ use crate::overlay::{ExtraEdge, Limit, Overlay};
 use lgm_gossip::Point;
 use std::alloc::{AllocError, Global};
 
-/// One thing that an overlay says of a node.
+/// One thing that an overlay changes at a node.
 #[derive(Clone, Copy)]
-pub(crate) enum Saying {
+pub(crate) enum Override {
     /// It is silent.
     Silent,
     /// An edge out of it has a limit.
@@ -44,43 +44,29 @@ fn numbered(extra: &ExtraEdge, from: u32, to: u32) -> Edge
     }
 }
 
-/// An extra edge leaves a node.
-fn leaving(edge: &Edge) -> Saying
-    ensures { result ≡ Leaving edge.now }
-{
-    Saying::Leaving(*edge)
-}
-
-/// An extra edge leads to a node.
-fn entering(edge: &Edge) -> Saying
-    ensures { result ≡ Entering edge.now }
-{
-    Saying::Entering(*edge)
-}
-
 impl TouchedNodes {
-    /// Takes in one thing that is said of a point, if it has a number.
-    fn say_of(
+    /// Applies an override to a point, if it has a number.
+    fn apply_at(
         &mut self,
         alloc: Global,
         points: &Points<'_>,
         point: &Point,
-        saying: Saying,
+        change: Override,
     ) -> Result<(), AllocError>
         requires { length self.old.places ≡ length points.now }
         ensures long { OnOk result (length self.new.places ≡ length points.now) }
-        ensures heard { OnOk result (AreHeard points.now point.now saying self.old self.new) }
+        ensures applied { OnOk result (IsAppliedAt points.now point.now change self.old self.new) }
     {
         // The contract of `len` says that points are distinct.
         points.len();
         if let Some(number) = points.number(point) {
-            self.say(alloc, number, saying)?;
+            self.apply(alloc, number, change)?;
         }
         Ok(())
     }
 
-    /// Takes in an extra edge, unless one before has its key.
-    fn say_extra(
+    /// Applies an extra edge, unless one before has its key.
+    fn apply_extra(
         &mut self,
         alloc: Global,
         points: &Points<'_>,
@@ -89,8 +75,8 @@ impl TouchedNodes {
         requires long { length self.old.places ≡ length points.now }
         requires joined { IsJoined points.now (extra_edge extra.now) }
         ensures long { OnOk result (length self.new.places ≡ length points.now) }
-        ensures said { OnOk result ((overlay : OverlayParts) → AreSaid (sayings_of overlay) points.now self.old
-            → AreSaid (sayings_of (record overlay { extra = overlay.extra ++ extra_edge extra.now ∷ [] })) points.now self.new) }
+        ensures applied { OnOk result ((overlay : OverlayParts) → AreApplied (overrides_of overlay) points.now self.old
+            → AreApplied (overrides_of (record overlay { extra = overlay.extra ++ extra_edge extra.now ∷ [] })) points.now self.new) }
     {
         let from = points.number_of(&extra.from);
         let to = points.number_of(&extra.to);
@@ -102,13 +88,14 @@ impl TouchedNodes {
             max: self.most(&edge),
             ..edge
         };
-        self.say_of(alloc, points, &extra.from, leaving(&limited))?;
-        self.say_of(alloc, points, &extra.to, entering(&limited))?;
+        let copy = limited;
+        self.apply_at(alloc, points, &extra.from, Override::Leaving(copy))?;
+        self.apply_at(alloc, points, &extra.to, Override::Entering(limited))?;
         Ok(())
     }
 
-    /// Takes in an overlay.
-    pub(super) fn say_overlay(
+    /// Applies an overlay.
+    pub(super) fn apply_overlay(
         &mut self,
         alloc: Global,
         points: &Points<'_>,
@@ -118,16 +105,16 @@ impl TouchedNodes {
         requires none { (number : ℕ) → place_of self.old number ≡ 0 }
         requires joined { AllByRecursion (IsJoined points.now) overlay.now.extra }
         ensures long { OnOk result (length self.new.places ≡ length points.now) }
-        ensures said { OnOk result (AreSaid (sayings_of overlay.now) points.now self.new) }
+        ensures applied { OnOk result (AreApplied (overrides_of overlay.now) points.now self.new) }
     {
         for node in overlay.silent() {
-            self.say_of(alloc, points, node, Saying::Silent)?;
+            self.apply_at(alloc, points, node, Override::Silent)?;
         }
         for limit in overlay.limits() {
-            self.say_of(alloc, points, &limit.from, Saying::Limited(*limit))?;
+            self.apply_at(alloc, points, &limit.from, Override::Limited(*limit))?;
         }
         for extra in overlay.extra() {
-            self.say_extra(alloc, points, extra)?;
+            self.apply_extra(alloc, points, extra)?;
         }
         Ok(())
     }
