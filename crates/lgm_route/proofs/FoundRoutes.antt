@@ -28,7 +28,8 @@ use Rattle.lgm_route.specs.Odds.{penalty_by}
 use Rattle.lgm_route.specs.declared.preferences.Preferences.{Preferences}
 use Rattle.lgm_route.specs.inner.Numbered.{Ask, Terms, known_from}
 use Rattle.lgm_route.specs.inner.Best.{AreAlike, IsFree, free, edges_in, ask_of, is_timely, hops_within, IsWalkFound, is_settled, certain, any_budget}
-use Rattle.lgm_route.proofs.PointWalkLaws.{usable_over, within_over, least_over, none_over, found_free, within_none}
+use Rattle.lgm_route.proofs.PointWalkLaws.{usable_over, within_over, least_over, none_over}
+use Rattle.lgm_route.proofs.WalkOrderLaws.{found_free, within_none}
 use Rattle.lgm_route.proofs.HopLaws.{length_hops}
 use Rattle.lgm_route.proofs.PreferredLaws.{true_within, within_true}
 use Rattle.lgm_route.proofs.ChoiceLaws.{le_true, true_le}
@@ -234,4 +235,4 @@ open_beyond penalty free limits edges request (Err (Fault fault)) unsettled sure
 -- any number of labels and steps is never used up
 pub any_lasts : (limits : RouteLimits) (edges : List PointEdge) (request : Request) → IsUsedUp limits edges request any_budget → ⊥
 any_lasts limits edges request (inl is) = omega (arith, is.0)
-any_lasts limits edges request (inr steps) = omega (arith, steps)
+any_lasts limits edges request (inr is) = omega (arith, is.0)

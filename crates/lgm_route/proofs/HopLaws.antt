@@ -13,7 +13,7 @@ use Rattle.lgm_route.specs.Routes.{owed, due, hops_of}
 use Rattle.lgm_route.specs.inner.Numbered as walks
 use Rattle.lgm_route.specs.inner.Searching.{AreCarried}
 use Rattle.lgm_route.specs.inner.Best.{edges_in, hop_over}
-use Rattle.lgm_route.proofs.PointWalkLaws.{over, owed_over}
+use Rattle.lgm_route.proofs.WalkOrderLaws.{over, owed_over}
 use Rattle.lgm_route.proofs.Rests.{carried_at}
 
 -- ---- hop by hop

@@ -1,14 +1,17 @@
 -- From numbered nodes to points: the walks over numbered edges are those over edges between points.
-use Rattle.std.proofs.Common.{◌≡◌, ℕ, zero, suc, ◌+◌, ◌^◌, ◌<◌, ◌≤◌, List, [], Option, inl, inr}
+use Rattle.std.proofs.Common.{◌≡◌, ◌⊎◌, ℕ, ◌+◌, ◌^◌, ◌<◌, ◌≤◌, List, [], Option, Bool, true, false, cond, if◌then◌else◌, inl, inr}
 use Rattle.std.proofs.Common.{◌∷◌, length, get_or, map, Some, None, refl, sym, ◌∙◌, ap, subst, arith}
-use Rattle.std.specs.Prelude.{Contains, min}
+use Rattle.std.specs.Prelude.{Contains, All, AllPairs, ◌≢◌, min, ◌==◌}
+use Rattle.std.proofs.lemmas.Bool.{cases_Bool, eqb-true}
+use Rattle.std.proofs.lemmas.List.Sums.{sum_by-le-sum_by}
+use Rattle.lgm_store.proofs.Points.{is_point-self}
+use Rattle.lgm_route.proofs.Sums.{sum-map}
 use Rattle.std.specs.List.{position}
 use Rattle.std.specs.Ordering.{nat_cmp}
 use Rattle.std.specs.Cmp.Lexicographic.{slice_cmp}
 use Rattle.std.proofs.lemmas.List.{length-map, get_or-map}
 use Rattle.lgm_wire.specs.declared.point.Point.{Point}
 use Rattle.lgm_store.specs.Rows.{is_point}
-use Rattle.lgm_graph.specs.Fee.{fee_of}
 use Rattle.lgm_graph.specs.Edges.{PointEdge}
 use Rattle.lgm_graph.specs.declared.edge.Edge.{Edge}
 use Rattle.lgm_graph.specs.Graph.{Graph, number_of, numbered_in, IsNumbered, no_point, edge_between, edges, point_edges, AreListed}
@@ -19,172 +22,11 @@ use Rattle.lgm_route.specs.Routes as routes
 use Rattle.lgm_route.specs.inner.Numbered as walks
 use Rattle.lgm_route.specs.inner.Best as numbers
 use Rattle.lgm_route.specs.declared.limits.SearchBudget.{SearchBudget}
-use Rattle.lgm_route.specs.inner.Best.{AreAlike, AreNumbered, IsFree, free, ask_of}
-use Rattle.lgm_route.specs.Answers.{IsFoundOver}
+use Rattle.lgm_route.specs.inner.Best.{AreAlike, ask_of}
 use Rattle.lgm_route.specs.declared.limits.RouteLimits.{RouteLimits}
 use Rattle.lgm_route.specs.Preferred as preferred
-use Rattle.lgm_route.specs.Preferred.{IsInTime, IsWithin, no_limits, IsLeastBy, IsFoundBy, IsPreferred}
-use Rattle.lgm_graph.specs.declared.route.Hop.{Hop}
-use Rattle.lgm_route.specs.declared.fault.RouteFault.{RouteFault}
-use Rattle.std.specs.Prelude.{Result, Ok, Err}
-
--- ---- lists
-
-map_at : {A B : Type 0} (f : A → B) (xs : List A) (i : ℕ) (d : A) → get_or (map f xs) i (f d) ≡ f (get_or xs i d)
-map_at f [] i d = refl
-map_at f (x ∷ xs) zero d = refl
-map_at f (x ∷ xs) (suc i) d = map_at f xs i d
-
-pub contains_map : {A B : Type 0} (f : A → B) (xs : List A) (x : A) → Contains xs x → Contains (map f xs) (f x)
-contains_map f xs x there = (there.0, omega (arith, length-map xs f, there.1), map_at f xs there.0 x ∙ ap f there.2)
-
-contains_tail : {A : Type 0} (x y : A) (xs : List A) → Contains xs y → Contains (x ∷ xs) y
-contains_tail x y xs there = (suc there.0, omega (arith, there.1), there.2)
-
-pub contained_map : {A B : Type 0} (f : A → B) (xs : List A) (y : B) (i : ℕ) → i < length (map f xs)
-    → get_or (map f xs) i y ≡ y → (x : A) × Contains xs x × (f x ≡ y)
-contained_map f [] y i lt e = absurd (omega arith)
-contained_map f (x ∷ xs) y zero lt e = (x, (0, omega arith, refl), e)
-contained_map f (x ∷ xs) y (suc i) lt e =
-    let later = contained_map f xs y i (omega arith) e in
-    (later.0, contains_tail x later.0 xs later.1, later.2)
-
--- ---- what walks cost
-
-abbrev pub over : List Point → List Edge → List PointEdge
-over points walk = map (edge_between points) walk
-
-pub owed_over : (points : List Point) (amount : ℕ) (walk : List Edge) → routes.owed amount (over points walk) ≡ walks.owed amount walk
-owed_over points amount [] = refl
-owed_over points amount (by_number ∷ rest) = ap (λ passed. passed + fee_of passed by_number.base by_number.millionths) (owed_over points amount rest)
-
-sent_over : (points : List Point) (amount : ℕ) (walk : List Edge) → routes.sent amount (over points walk) ≡ walks.sent amount walk
-sent_over points amount [] = refl
-sent_over points amount (by_number ∷ rest) = owed_over points amount rest
-
-ids_over : (points : List Point) (walk : List Edge) → routes.ids (over points walk) ≡ walks.ids walk
-ids_over points [] = refl
-ids_over points (by_number ∷ rest) = ap (λ l. by_number.scid ∷ l) (ids_over points rest)
-
-penalties_over : (graph : Graph) (terms : Option walks.Terms) (penalty : PointEdge → ℕ → ℕ) → AreAlike graph terms penalty → (amount : ℕ)
-    (walk : List Edge) → AreNumbered graph walk
-    → preferred.penalties penalty amount (over graph.points walk) ≡ walks.penalties terms amount walk
-penalties_over graph terms penalty alike amount [] are = refl
-penalties_over graph terms penalty alike amount (by_number ∷ rest) are =
-    let later = penalties_over graph terms penalty alike amount rest are.1 in
-    let carried = ap (penalty (edge_between graph.points by_number)) (owed_over graph.points amount rest) in
-    omega (arith, later, carried, alike by_number (are.0).0 (walks.owed amount rest))
-
-worth_over : (graph : Graph) (request : Ask) (penalty : PointEdge → ℕ → ℕ) → AreAlike graph request.terms penalty
-    → (walk : List Edge) → AreNumbered graph walk
-    → preferred.worth penalty request.amount (over graph.points walk) ≡ walks.worth request walk
-worth_over graph request penalty alike [] are = refl
-worth_over graph request penalty alike (by_number ∷ rest) are =
-    omega (arith, owed_over graph.points request.amount rest, penalties_over graph request.terms penalty alike request.amount rest are.1)
-
--- the nodes of a walk are numbered
-pub walk_numbered : (graph : Graph) → AreListed graph → (numbered : Ask) (walk : List Edge)
-    (node : ℕ) → walks.IsRest (edges graph) numbered node walk → AreNumbered graph walk
-walk_numbered graph listed numbered [] node joins = tt
-walk_numbered graph listed numbered (edge ∷ rest) node joins =
-    let is = listed.each edge joins.0.there in
-    ((is.from, is.to), walk_numbered graph listed numbered rest edge.to joins.1)
-
-abbrev key : Ask → List Edge → List ℕ
-key request walk = walks.worth request walk ∷ length walk ∷ walks.ids walk
-
-abbrev key_over : (PointEdge → ℕ → ℕ) → ℕ → List PointEdge → List ℕ
-key_over penalty amount walk = preferred.worth penalty amount walk ∷ length walk ∷ routes.ids walk
-
-keys_same : (graph : Graph) (request : Ask) (penalty : PointEdge → ℕ → ℕ) → AreAlike graph request.terms penalty
-    → (walk : List Edge) → AreNumbered graph walk → key_over penalty request.amount (over graph.points walk) ≡ key request walk
-keys_same graph request penalty alike walk are =
-    rw (worth_over graph request penalty alike walk are, length-map walk (edge_between graph.points), ids_over graph.points walk) refl
-
--- ---- limits
-
-delay_over : (points : List Point) (limit : ℕ) (walk : List Edge) → routes.due 0 (over points walk) ≡ walks.delay (Some limit) walk
-delay_over points limit [] = refl
-delay_over points limit (by_number ∷ rest) = ap (λ n. n + by_number.delta) (delay_over points limit rest)
-
-no_delay : (walk : List Edge) → walks.delay None walk ≡ 0
-no_delay [] = refl
-no_delay (by_number ∷ rest) = omega (arith, no_delay rest)
-
-time_over : (points : List Point) (limit : Option ℕ) (walk : List Edge) → walks.walk_delay limit walk ≤ walks.most_delay limit
-    → IsInTime limit (over points walk)
-time_over points None walk h = tt
-time_over points (Some limit) [] h = h
-time_over points (Some limit) (by_number ∷ rest) h = omega (arith, h, delay_over points limit rest)
-
-time_back : (points : List Point) (limit : Option ℕ) (walk : List Edge) → IsInTime limit (over points walk)
-    → walks.walk_delay limit walk ≤ walks.most_delay limit
-time_back points None [] h = omega arith
-time_back points None (by_number ∷ rest) h = omega (arith, no_delay rest)
-time_back points (Some limit) [] h = h
-time_back points (Some limit) (by_number ∷ rest) h = omega (arith, h, delay_over points limit rest)
-
-due_over : (points : List Point) (limit : Option ℕ) (rest : List Edge) → walks.delay limit rest ≤ walks.most_delay limit
-    → preferred.IsDueIn limit (over points rest)
-due_over points None rest h = tt
-due_over points (Some limit) rest h = omega (arith, h, delay_over points limit rest)
-
--- ---- without penalties it is the walk that sends least
-
-no_penalties : (penalty : PointEdge → ℕ → ℕ) → IsFree penalty → (amount : ℕ) (walk : List PointEdge)
-    → preferred.penalties penalty amount walk ≡ 0
-no_penalties penalty is amount [] = refl
-no_penalties penalty is amount (edge ∷ rest) =
-    omega (arith, no_penalties penalty is amount rest, is edge (routes.owed amount rest))
-
-free_worth : (penalty : PointEdge → ℕ → ℕ) → IsFree penalty → (amount : ℕ) (walk : List PointEdge)
-    → routes.sent amount walk ≡ preferred.worth penalty amount walk
-free_worth penalty is amount [] = refl
-free_worth penalty is amount (edge ∷ rest) = omega (arith, no_penalties penalty is amount rest)
-
-free_key : (penalty : PointEdge → ℕ → ℕ) → IsFree penalty → (request : Request) (walk : List PointEdge)
-    → routes.walk_key request walk ≡ preferred.worth_key penalty request walk
-free_key penalty is request walk = ap (λ n. n ∷ length walk ∷ routes.ids walk) (free_worth penalty is request.amount walk)
-
--- the orders are the same
-pub free_order : (penalty : PointEdge → ℕ → ℕ) → IsFree penalty → (request : Request) (walk other : List PointEdge)
-    → slice_cmp nat_cmp (routes.walk_key request walk) (routes.walk_key request other)
-    ≡ slice_cmp nat_cmp (preferred.worth_key penalty request walk) (preferred.worth_key penalty request other)
-free_order penalty is request walk other =
-    ap (λ k. slice_cmp nat_cmp k (routes.walk_key request other)) (free_key penalty is request walk)
-    ∙ ap (slice_cmp nat_cmp (preferred.worth_key penalty request walk)) (free_key penalty is request other)
-
--- every usable walk is within no limits
-pub within_none : (edges : List PointEdge) (request : Request) (walk : List PointEdge) → routes.IsUsable edges request walk
-    → IsWithin no_limits walk
-within_none edges request walk usable = record { short = usable.few; in_time = tt }
-
-pub found_free : (penalty : PointEdge → ℕ → ℕ) → IsFree penalty → (edges : List PointEdge) (request : Request)
-    (found : Result (List Hop) RouteFault) → IsFoundBy penalty no_limits edges request found → IsFoundOver edges request found
-found_free penalty is edges request (Ok hops) found = (
-  found.0,
-  record {
-    usable = found.1.usable;
-    first = λ other able before. found.1.first other able (within_none edges request other able)
-        (sym (free_order penalty is request other found.0) ∙ before);
-  },
-  found.2,
-)
-found_free penalty is edges request (Err fault) found =
-    (found.0, λ walk able. found.1 walk able (within_none edges request walk able))
-
-pub free_found : (penalty : PointEdge → ℕ → ℕ) → IsFree penalty → (edges : List PointEdge) (request : Request)
-    (found : Result (List Hop) RouteFault) → IsFoundOver edges request found → IsFoundBy penalty no_limits edges request found
-free_found penalty is edges request (Ok hops) found = (
-  found.0,
-  record {
-    usable = found.1.usable;
-    within = within_none edges request found.0 found.1.usable;
-    first = λ other able within before. found.1.first other able (free_order penalty is request other found.0 ∙ before);
-  },
-  found.2,
-)
-free_found penalty is edges request (Err fault) found = (found.0, λ walk able within. found.1 walk able)
+use Rattle.lgm_route.specs.Preferred.{IsInTime, IsWithin, IsLeastBy, IsPreferred}
+use Rattle.lgm_route.proofs.WalkOrderLaws.{contains_map, contained_map, over, owed_over, walk_numbered, key, key_over, keys_same, time_over, time_back, due_over}
 
 -- ---- walks
 
@@ -269,38 +111,124 @@ module _ (graph : Graph) (listed : AreListed graph) (request : Request) (payer p
     in_time = due_over graph.points limits.most_delay rest is.in_time;
   }
 
+  -- rests over numbered edges, over edges between points
+  module _ (rests : List (List Edge)) (are : All (numbers.IsRestWithin (edges graph) numbered) rests) where
+    long : length (map (over graph.points) rests) ≡ length rests
+    long = length-map rests (over graph.points)
+
+    at : (i : ℕ) (d : List PointEdge) → i < length (map (over graph.points) rests)
+        → get_or (map (over graph.points) rests) i d ≡ over graph.points (get_or rests i [])
+    at i d in_range = get_or-map (over graph.points) rests i [] d (omega (arith, in_range, long))
+
+    back : (i : ℕ) → i < length rests → map (numbered_in graph.points) (over graph.points (get_or rests i [])) ≡ get_or rests i []
+    back i in_range =
+        let is = are i [] in_range in
+        rest_same (get_or rests i []) is.node is.joins
+
+    all_over : All (preferred.IsRestWithin limits (point_edges graph) request) (map (over graph.points) rests)
+    all_over i d in_range = subst (preferred.IsRestWithin limits (point_edges graph) request) (sym (at i d in_range))
+        (rest_within (get_or rests i []) (are i [] (omega (arith, in_range, long))))
+
+    differ_over : AllPairs (λ rest other. rest ≢ other) rests → AllPairs (λ rest other. rest ≢ other) (map (over graph.points) rests)
+    differ_over different i j d before in_range same =
+        different i j [] before (omega (arith, in_range, long))
+        (sym (back i (omega (arith, before, in_range, long))) ∙ ap (map (numbered_in graph.points))
+        (sym (at i d (omega (arith, before, in_range))) ∙ same ∙ at j d in_range) ∙ back j (omega (arith, in_range, long)))
+
   pub rests_over : (count : ℕ) → numbers.HaveRests (edges graph) numbered count → preferred.HaveRests limits (point_edges graph) request count
   rests_over count have = record {
     rests = map (over graph.points) have.rests;
-    many = omega (arith, have.many, long);
-    within = λ i d in_range. subst (preferred.IsRestWithin limits (point_edges graph) request) (sym (at i d in_range))
-        (rest_within (get_or have.rests i []) (have.within i [] (omega (arith, in_range, long))));
-    different = λ i j d before in_range same. different i j before (omega (arith, in_range, long))
-        (sym (at i d (omega (arith, before, in_range))) ∙ same ∙ at j d in_range);
+    many = omega (arith, have.many, length-map have.rests (over graph.points));
+    within = all_over have.rests have.within;
+    different = differ_over have.rests have.within have.different;
+  }
+
+  -- they begin where they did
+  start_over : (rest : List Edge) → preferred.start_of request (over graph.points rest) ≡ point_at (numbers.start_of numbered rest)
+  start_over [] = sym (stands request.payee payee payee_is)
+  start_over (by_number ∷ rest) = refl
+
+  -- the same number is the same point
+  one_node : (a b : ℕ) (p : Point) (n : ℕ) → p ≡ point_at a → (if a == b then n else 0) ≤ (if is_point (point_at b) p then n else 0)
+  one_node a b p n at = by (cases_Bool (a == b))
+    where
+      by : (a == b ≡ true) ⊎ (a == b ≡ false) → (if a == b then n else 0) ≤ (if is_point (point_at b) p then n else 0)
+      by (inl e) =
+          let same : is_point (point_at b) p ≡ true = ap (is_point (point_at b)) (at ∙ ap point_at (eqb-true a b e)) ∙ is_point-self (point_at b) in
+          rw (e, same) (omega arith)
+      by (inr e) = rw e (omega arith)
+
+  rests_at_over : (rests : List (List Edge)) (node : ℕ)
+      → numbers.rests_at numbered rests node ≤ preferred.rests_at request (map (over graph.points) rests) (point_at node)
+  rests_at_over rests node =
+      omega (
+        arith,
+        sum-map (over graph.points) (λ rest. cond (is_point (point_at node) (preferred.start_of request rest)) 1 0) rests,
+        sum_by-le-sum_by (λ rest. cond (numbers.start_of numbered rest == node) 1 0)
+            (λ rest. cond (is_point (point_at node) (preferred.start_of request (over graph.points rest))) 1 0) rests
+            (λ rest. one_node (numbers.start_of numbered rest) node (preferred.start_of request (over graph.points rest)) 1 (start_over rest)),
+      )
+
+  looks_at_over : (rests : List (List Edge)) (node : ℕ) → numbers.looks_at numbered (edges graph) rests node
+      ≤ preferred.looks_at request (point_edges graph) (map (over graph.points) rests) (point_at node)
+  looks_at_over rests node =
+      omega (
+        arith,
+        sum-map (edge_between graph.points) (λ (edge : PointEdge). if is_point (point_at node) edge.to then 1 + preferred.rests_at request (map (over graph.points) rests) edge.from else 0) (edges graph),
+        sum_by-le-sum_by (λ (edge : Edge). if edge.to == node then 1 + numbers.rests_at numbered rests edge.from else 0)
+            (λ (edge : Edge). if is_point (point_at node) (point_at edge.to) then 1 + preferred.rests_at request (map (over graph.points) rests) (point_at edge.from) else 0) (edges graph)
+            (λ edge. each edge),
+      )
+    where
+      more : (b : Bool) (n m : ℕ) → n ≤ m → (if b then n else 0) ≤ (if b then m else 0)
+      more true n m h = h
+      more false n m h = omega arith
+
+      each : (edge : Edge) → (if edge.to == node then 1 + numbers.rests_at numbered rests edge.from else 0)
+          ≤ (if is_point (point_at node) (point_at edge.to) then 1 + preferred.rests_at request (map (over graph.points) rests) (point_at edge.from) else 0)
+      each edge =
+          omega (
+            arith,
+            one_node edge.to node (point_at edge.to) (1 + numbers.rests_at numbered rests edge.from) refl,
+            more (is_point (point_at node) (point_at edge.to)) (1 + numbers.rests_at numbered rests edge.from)
+                (1 + preferred.rests_at request (map (over graph.points) rests) (point_at edge.from)) (omega (arith, rests_at_over rests edge.from)),
+          )
+
+  -- and a search of them takes as many steps
+  steps_of_over : (rests : List (List Edge)) → numbers.steps_of numbered (edges graph) rests
+      ≤ preferred.steps_of request (point_edges graph) (map (over graph.points) rests)
+  steps_of_over rests =
+      omega (
+        arith,
+        sum-map (over graph.points) (λ rest. preferred.steps_at request (point_edges graph) (map (over graph.points) rests) (preferred.start_of request rest)) rests,
+        sum_by-le-sum_by (λ rest. numbers.steps_at numbered (edges graph) rests (numbers.start_of numbered rest))
+            (λ rest. preferred.steps_at request (point_edges graph) (map (over graph.points) rests) (preferred.start_of request (over graph.points rest))) rests (λ rest. each rest),
+      )
+    where
+      each : (rest : List Edge) → numbers.steps_at numbered (edges graph) rests (numbers.start_of numbered rest)
+          ≤ preferred.steps_at request (point_edges graph) (map (over graph.points) rests) (preferred.start_of request (over graph.points rest))
+      each rest =
+          subst (λ p. numbers.steps_at numbered (edges graph) rests (numbers.start_of numbered rest)
+          ≤ preferred.steps_at request (point_edges graph) (map (over graph.points) rests) p) (sym (start_over rest))
+          (omega (arith, looks_at_over rests (numbers.start_of numbered rest), rests_at_over rests (numbers.start_of numbered rest)))
+
+  pub steps_over : (steps : ℕ) → numbers.HaveSteps (edges graph) numbered steps → preferred.HaveSteps limits (point_edges graph) request steps
+  steps_over steps have = record {
+    rests = map (over graph.points) have.rests;
+    many = by have.many;
+    within = all_over have.rests have.within;
+    different = differ_over have.rests have.within have.different;
   }
     where
-      long : length (map (over graph.points) have.rests) ≡ length have.rests
-      long = length-map have.rests (over graph.points)
-
-      at : (i : ℕ) (d : List PointEdge) → i < length (map (over graph.points) have.rests)
-          → get_or (map (over graph.points) have.rests) i d ≡ over graph.points (get_or have.rests i [])
-      at i d in_range = get_or-map (over graph.points) have.rests i [] d (omega (arith, in_range, long))
-
-      back : (i : ℕ) → i < length have.rests
-          → map (numbered_in graph.points) (over graph.points (get_or have.rests i [])) ≡ get_or have.rests i []
-      back i in_range =
-          let is = have.within i [] in_range in
-          rest_same (get_or have.rests i []) is.node is.joins
-
-      different : (i j : ℕ) → i < j → j < length have.rests
-          → over graph.points (get_or have.rests i []) ≡ over graph.points (get_or have.rests j []) → ⊥
-      different i j before in_range same = have.different i j [] before in_range
-          (sym (back i (omega (arith, before, in_range))) ∙ ap (map (numbered_in graph.points)) same ∙ back j in_range)
+      by : (steps < numbers.steps_of numbered (edges graph) have.rests) ⊎ (2 ^ 32 ≤ length have.rests)
+          → (steps < preferred.steps_of request (point_edges graph) (map (over graph.points) have.rests)) ⊎ (2 ^ 32 ≤ length (map (over graph.points) have.rests))
+      by (inl p) = inl (omega (arith, p, steps_of_over have.rests))
+      by (inr p) = inr (omega (arith, p, length-map have.rests (over graph.points)))
 
   pub used_over : (budget : SearchBudget) → numbers.IsUsedUp (edges graph) numbered budget
       → preferred.IsUsedUp limits (point_edges graph) request budget
   used_over budget (inl p) = inl (p.0, rests_over (min budget.most_labels (2 ^ 32)) p.1)
-  used_over budget (inr p) = inr p
+  used_over budget (inr p) = inr (p.0, steps_over budget.most_steps p.1)
 
   usable_back : (walk : List PointEdge) → routes.IsUsable (point_edges graph) request walk → IsWithin limits walk
       → (back : List Edge) × (over graph.points back ≡ walk) × walks.IsUsable (edges graph) numbered back

@@ -1,12 +1,15 @@
 -- Exhaustive search finds the best walk by penalties, within limits, which is unique.
-use Rattle.std.proofs.Common.{◌≡◌, ◌≢◌, ℕ, ◌+◌, ◌-◌, ◌*◌, ◌/◌, ◌^◌, ◌≤◌, inl, inr, min, true, List, [], ◌∷◌, length, refl, sym, ◌∙◌, ap, subst, arith}
+use Rattle.std.proofs.Common.{◌≡◌, ◌≢◌, ◌⊎◌, ℕ, ◌+◌, ◌-◌, ◌*◌, ◌/◌, ◌^◌, ◌<◌, ◌≤◌, if◌then◌else◌, inl, inr, min, true, List, [], ◌∷◌, length, refl, sym, ◌∙◌, ap, subst, arith}
 use Rattle.std.specs.Prelude.{nat_le, Option, Some, None, IfSome, Result, Ok, Err}
 use Rattle.std.specs.List.{All, fold}
 use Rattle.std.specs.Option.{unwrap_or}
 use Rattle.std.proofs.lemmas.Map.Entries.{All-lookup}
 use Rattle.std.specs.List.Sorted.{IsPermutation}
+use Rattle.std.proofs.lemmas.List.Sums.{sum_by-le-sum_by}
+use Rattle.std.proofs.lemmas.List.Sorted.{sum_by-IsPermutation}
 use Rattle.std.proofs.Math.Nat.{min-le_left, min-le_right}
 use Rattle.std.proofs.lemmas.Bool.{and_parts}
+use Rattle.lgm_store.specs.Rows.{is_point}
 use Rattle.lgm_graph.specs.Edges.{PointEdge, AreKeyed}
 use Rattle.lgm_graph.specs.Estimates.{Entries, estimate_of, known_of, is_key, no_estimate}
 use Rattle.lgm_graph.specs.declared.estimate.Estimate.{Estimate}
@@ -27,11 +30,11 @@ use Rattle.lgm_route.specs.Odds.{odds}
 use Rattle.lgm_route.specs.Choice.{usable_walks, lesser, least_of, found_by, answer_by, answer_of}
 use Rattle.lgm_route.specs.Preferred.{delay, IsInTime, IsWithin, no_limits, penalty_at, worth_key, IsPreferred, IsFoundBy}
 use Rattle.lgm_route.specs.Preferred.{IsPreferredBy, IsPreferredAnswer, is_in_time, is_within, walks_within, preferred_walk, preferred_answer}
-use Rattle.lgm_route.specs.Preferred.{IsRouteBy, IsRestWithin, IsUsedUp, IsBeyond, no_preferences, HasNoPenalty, PrefersNothing, penalty_for}
+use Rattle.lgm_route.specs.Preferred.{start_of, rests_at, steps_at, steps_of, IsRouteBy, IsRestWithin, IsUsedUp, IsBeyond, no_preferences, HasNoPenalty, PrefersNothing, penalty_for}
 use Rattle.lgm_route.specs.inner.Best.{IsFree}
 use Rattle.lgm_route.proofs.Orders.{NotAfter-excludes}
 use Rattle.lgm_route.proofs.Rests.{penalty_at-rises}
-use Rattle.lgm_route.proofs.PointWalkLaws.{free_found}
+use Rattle.lgm_route.proofs.WalkOrderLaws.{free_found}
 use Rattle.lgm_route.proofs.Visits.{Rises, preferred-unique}
 use Rattle.lgm_route.proofs.ChoiceLaws.{le_true, true_le, usable_found, found_usable, folded, NoneBefore, point_apart, tried, HaveSame, same-permuted, rest_over, usable_over}
 
@@ -246,47 +249,81 @@ beyond_reordered limits edges others request order is = (
     same : HaveSame edges others
     same = same-permuted edges others order
 
+-- a rest within limits is one without
+rest_widened : (limits : RouteLimits) (edges : List PointEdge) (request : Request) {rest : List PointEdge} → IsRestWithin limits edges request rest
+    → IsRestWithin no_limits edges request rest
+rest_widened limits edges request h = record {
+  node = h.node;
+  joins = h.joins;
+  short = omega (arith, h.short, min-le_right limits.most_hops 20);
+  in_time = tt;
+}
+
 -- a budget that can run out within limits can without
 pub used_widened : (limits : RouteLimits) (edges : List PointEdge) (request : Request) (budget : SearchBudget)
     → IsUsedUp limits edges request budget → IsUsedUp no_limits edges request budget
-used_widened limits edges request budget (inr steps) = inr steps
+used_widened limits edges request budget (inr is) =
+    inr (
+      is.0,
+      record {
+        rests = is.1.rests;
+        many = is.1.many;
+        within = λ i d in_range. rest_widened limits edges request (is.1.within i d in_range);
+        different = is.1.different;
+      },
+    )
 used_widened limits edges request budget (inl is) =
     inl (
       is.0,
       record {
         rests = is.1.rests;
         many = is.1.many;
-        within = λ i d in_range. wide (is.1.within i d in_range);
+        within = λ i d in_range. rest_widened limits edges request (is.1.within i d in_range);
+        different = is.1.different;
+      },
+    )
+
+-- a rest is one over the same edges in another order
+rest_reordered : (limits : RouteLimits) (edges others : List PointEdge) (request : Request) {rest : List PointEdge} → IsPermutation others edges
+    → IsRestWithin limits edges request rest → IsRestWithin limits others request rest
+rest_reordered limits edges others request {rest} order h = record {
+  node = h.node;
+  joins = rest_over edges others request h.node rest (λ edge. (same-permuted edges others order edge).0) h.joins;
+  short = h.short;
+  in_time = h.in_time;
+}
+
+-- and takes as many steps
+steps_reordered : (edges others : List PointEdge) (request : Request) (rests : List (List PointEdge)) → IsPermutation others edges
+    → steps_of request edges rests ≤ steps_of request others rests
+steps_reordered edges others request rests order =
+    sum_by-le-sum_by (λ rest. steps_at request edges rests (start_of request rest)) (λ rest. steps_at request others rests (start_of request rest)) rests
+    (λ rest. omega (arith, sum_by-IsPermutation (λ (edge : PointEdge). if is_point (start_of request rest) edge.to then 1 + rests_at request rests edge.from else 0) others edges order))
+
+pub used_reordered : (limits : RouteLimits) (edges others : List PointEdge) (request : Request) (budget : SearchBudget)
+    → IsPermutation others edges → IsUsedUp limits edges request budget → IsUsedUp limits others request budget
+used_reordered limits edges others request budget order (inr is) =
+    inr (
+      is.0,
+      record {
+        rests = is.1.rests;
+        many = by is.1.many;
+        within = λ i d in_range. rest_reordered limits edges others request order (is.1.within i d in_range);
         different = is.1.different;
       },
     )
   where
-    wide : {rest : List PointEdge} → IsRestWithin limits edges request rest → IsRestWithin no_limits edges request rest
-    wide {rest} h = record {
-      node = h.node;
-      joins = h.joins;
-      short = omega (arith, h.short, min-le_right limits.most_hops 20);
-      in_time = tt;
-    }
-
-pub used_reordered : (limits : RouteLimits) (edges others : List PointEdge) (request : Request) (budget : SearchBudget)
-    → IsPermutation others edges → IsUsedUp limits edges request budget → IsUsedUp limits others request budget
-used_reordered limits edges others request budget order (inr steps) = inr steps
+    by : (budget.most_steps < steps_of request edges is.1.rests) ⊎ (2 ^ 32 ≤ length is.1.rests)
+        → (budget.most_steps < steps_of request others is.1.rests) ⊎ (2 ^ 32 ≤ length is.1.rests)
+    by (inl p) = inl (omega (arith, p, steps_reordered edges others request is.1.rests order))
+    by (inr p) = inr p
 used_reordered limits edges others request budget order (inl is) =
     inl (
       is.0,
       record {
         rests = is.1.rests;
         many = is.1.many;
-        within = λ i d in_range. over (is.1.within i d in_range);
+        within = λ i d in_range. rest_reordered limits edges others request order (is.1.within i d in_range);
         different = is.1.different;
       },
     )
-  where
-    over : {rest : List PointEdge} → IsRestWithin limits edges request rest → IsRestWithin limits others request rest
-    over {rest} h = record {
-      node = h.node;
-      joins = rest_over edges others request h.node rest (λ edge. (same-permuted edges others order edge).0) h.joins;
-      short = h.short;
-      in_time = h.in_time;
-    }

@@ -13,7 +13,7 @@ use Rattle.lgm_route.specs.inner.Searching.{SomeWalk, AreLabels, bound_of, IsHop
 use Rattle.lgm_route.specs.inner.Relaxations.{IsNeedless, IsRelaxationOf, IsRelaxation, in_list, IsAmong, AreRelaxations}
 use Rattle.lgm_route.proofs.Rests.{trichotomy}
 use Rattle.lgm_route.proofs.Labels.{label_left, at-later, long-later}
-use Rattle.lgm_route.proofs.Steps.{all_passed}
+use Rattle.lgm_route.proofs.Passed.{all_passed}
 
 -- one more edge before a label's rest
 module _ (graph : Graph) (request : Ask) (labels : List Label) (i : ℕ) (edge : Edge) (new : Label)

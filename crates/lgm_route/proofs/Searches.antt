@@ -13,14 +13,14 @@ use Rattle.lgm_route.specs.inner.Searching.{Low, cost, label_at, edge_at, Spells
 use Rattle.lgm_route.specs.inner.Searching.{Grows, IsOffered, IsBetter, RelaxesOn, AreSpelled, SomeRest, IsNoBetter, IsDominatorOf, IsUpperBound}
 use Rattle.lgm_route.specs.inner.Fronts.{Fronts, HaveFronts, AreNewFronts, AreDistinct}
 use Rattle.lgm_route.specs.inner.Relaxations.{IsRelaxationOf, AreRelaxations}
-use Rattle.lgm_route.specs.inner.SearchState.{Ground, SearchState, state_of, IsGround, IsSearch, Extends, IsHalted, IsSettledAt, IsMarkedAt}
+use Rattle.lgm_route.specs.inner.SearchState.{Ground, SearchState, state_of, IsGround, IsSearch, Extends, IsHalted, IsPaid, IsSettledAt, IsMarkedAt}
 use Rattle.lgm_route.specs.inner.SearchState.{AreRelaxationsAt, IsRelaxedOn, IsLeftAt, IsFinished, bound_in}
 use Rattle.lgm_route.proofs.Rests.{trichotomy}
 use Rattle.lgm_route.proofs.Labels.{grows-refl, grows-trans, found-grows, no_better-grows, none_better}
-use Rattle.lgm_route.proofs.Steps.{still_settled, settled_left, settled_hopeless}
-use Rattle.lgm_route.proofs.FrontLaws.{fronts_new}
+use Rattle.lgm_route.proofs.Passed.{still_settled, settled_left, settled_hopeless}
+use Rattle.lgm_route.proofs.NewFrontLaws.{fronts_new}
 use Rattle.lgm_route.proofs.Endings.{least_of, usable_of}
-use Rattle.lgm_route.proofs.Steps.{settled_for, passes_from, passes_later, all_passed, spelled_labels}
+use Rattle.lgm_route.proofs.Passed.{settled_for, passes_from, passes_later, all_passed, spelled_labels}
 use Rattle.lgm_route.proofs.RelaxationLaws.{leads_later, led_later, all_taken}
 
 -- ---- one search, later
@@ -45,8 +45,8 @@ extends-refl a = record {
 }
 
 -- a search that went on and then stopped
-pub halted_on : (a b c : SearchState) (halt : Halt) → Extends a b → IsHalted b c halt → IsHalted a c halt
-halted_on a b c halt h k = record { ground = k.ground ∙ h.ground; may = k.may }
+pub halted_on : (a b c : SearchState) (halt : Halt) → Extends a b → IsHalted b c halt → (IsPaid a → IsPaid b) → IsHalted a c halt
+halted_on a b c halt h k pays = record { ground = k.ground ∙ h.ground; may = λ paid. k.may (pays paid) }
 
 abbrev Relaxing : Ground → List Label → ℕ → SearchState → Edge → Type 0
 Relaxing ground labels i after edge = RelaxesOn ground.graph ground.request ground.low ground.upper_bound labels i after.labels after.best edge
@@ -220,7 +220,7 @@ pub begun : (graph : Graph) (request : Ask) (low : Low) (upper_bound : ℕ) (bud
     (labels : List Label)
     → labels ≡ record { amount = request.amount; penalty = 0; parent = 0; at = 0; node = request.payee; hops = 0; delay = 0 } ∷ []
     → (fronts : Fronts) → AreNewFronts fronts → (done : List Bool) → done ≡ [] →
-    IsSearch (state_of graph request low upper_bound budget labels None fronts done)
+    IsSearch (state_of graph request low upper_bound budget labels None fronts done 0 0)
 begun graph request low upper_bound budget hops listed long are_low small upper labels one fronts new done none = record {
   ground = record { hops = hops; listed = listed; long = long; low = are_low; small = small; upper_bound = upper };
   labelled = rw one first;

@@ -7,7 +7,7 @@ use Rattle.lgm_graph.specs.Graph.{Graph, AreListed, edge_between, edges, edges_i
 use Rattle.lgm_route.specs.declared.sought.Sought.{Sought}
 use Rattle.lgm_route.specs.Reasons.{is_sought, NoneIsSought, SomeIsSought}
 use Rattle.lgm_route.specs.inner.Seeking.{NoneIsInto}
-use Rattle.lgm_route.proofs.PointWalkLaws.{contains_map, contained_map}
+use Rattle.lgm_route.proofs.WalkOrderLaws.{contains_map, contained_map}
 
 module _ (graph : Graph) (listed : AreListed graph) (sought : Sought) where
   -- an edge into a node is one of the graph

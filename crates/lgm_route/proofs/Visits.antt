@@ -18,7 +18,7 @@ use Rattle.lgm_route.specs.inner.Best.{free}
 use Rattle.lgm_route.specs.inner.Searching.{NotAfter}
 use Rattle.lgm_route.proofs.Orders.{NotAfter-split, NotAfter-heads}
 use Rattle.lgm_route.proofs.Rests.{raised-le}
-use Rattle.lgm_route.proofs.PointWalkLaws.{free_order, within_none}
+use Rattle.lgm_route.proofs.WalkOrderLaws.{free_order, within_none}
 
 sent_below : (amount : ℕ) (walk : List PointEdge) → sent amount walk ≤ owed amount walk
 sent_below amount [] = omega arith

@@ -1,9 +1,10 @@
 -- The best walk by what its payer prefers, within limits: by relation and by exhaustive search.
-use Rattle.std.specs.Prelude.{◌≡◌, ◌≢◌, ◌⊎◌, ℕ, ◌+◌, ◌-◌, ◌^◌, ◌<◌, ◌≤◌, Bool, true, false, ◌&&◌, nat_le, min, List, [], ◌∷◌, length, filter, All, AllPairs, Option, None, Some, Result, Ok, Err}
+use Rattle.std.specs.Prelude.{◌≡◌, ◌≢◌, ◌⊎◌, ℕ, ◌+◌, ◌-◌, ◌*◌, ◌^◌, ◌<◌, ◌≤◌, Bool, true, false, ◌&&◌, nat_le, min, List, [], ◌∷◌, length, filter, count_by, sum_by, if◌then◌else◌, All, AllPairs, Option, None, Some, Result, Ok, Err}
 use Rattle.std.specs.declared.cmp.Ordering.TheVariants.{Less}
 use Rattle.std.specs.Ordering.{nat_cmp}
 use Rattle.std.specs.Cmp.Lexicographic.{slice_cmp}
 use Rattle.lgm_wire.specs.declared.point.Point.{Point}
+use Rattle.lgm_store.specs.Rows.{is_point}
 use Rattle.lgm_graph.specs.Edges.{PointEdge, AreKeyed}
 use Rattle.lgm_graph.specs.Estimates.{Entries, estimate_of}
 use Rattle.lgm_graph.specs.declared.estimate.EdgeKey.{EdgeKey}
@@ -181,11 +182,42 @@ pub record HaveRests (limits : RouteLimits) (edges : List PointEdge) (request : 
   pub within : All (IsRestWithin limits edges request) rests
   pub different : AllPairs (λ rest other. rest ≢ other) rests
 
--- the budget can run out: there are as many rests as there may be labels, or 2^32; or there is a maximum of steps
+-- the node at which a rest begins
+abbrev pub start_of : Request → List PointEdge → Point
+start_of request [] = request.payee
+start_of request (edge ∷ rest) = edge.from
+
+-- how many of the rests begin at a node
+abbrev pub rests_at : Request → List (List PointEdge) → Point → ℕ
+rests_at request rests node = count_by (λ rest. is_point node (start_of request rest)) rests
+
+-- the steps of extending a rest that begins at a node: each edge into the node is looked at, and the rest that it leads to
+-- compared with those that begin where that does
+abbrev pub looks_at : Request → List PointEdge → List (List PointEdge) → Point → ℕ
+looks_at request edges rests node =
+    sum_by (λ edge. if is_point node edge.to then 1 + rests_at request rests edge.from else 0) edges
+
+-- the steps of a rest: it is extended once, by dives up to three times more, and compared once with those that begin there
+abbrev pub steps_at : Request → List PointEdge → List (List PointEdge) → Point → ℕ
+steps_at request edges rests node = 4 * looks_at request edges rests node + rests_at request rests node
+
+-- the most steps of a search that makes these rests
+abbrev pub steps_of : Request → List PointEdge → List (List PointEdge) → ℕ
+steps_of request edges rests = sum_by (λ rest. steps_at request edges rests (start_of request rest)) rests
+
+-- there are different ones of which a search may take more steps than these, or 2^32
+pub record HaveSteps (limits : RouteLimits) (edges : List PointEdge) (request : Request) (steps : ℕ) : Type 0 where
+  pub rests : List (List PointEdge)
+  pub many : (steps < steps_of request edges rests) ⊎ (2 ^ 32 ≤ length rests)
+  pub within : All (IsRestWithin limits edges request) rests
+  pub different : AllPairs (λ rest other. rest ≢ other) rests
+
+-- the budget can run out: there are as many rests as there may be labels, or 2^32; or rests that may take more steps than
+-- there may be
 abbrev pub IsUsedUp : RouteLimits → List PointEdge → Request → SearchBudget → Type 0
 IsUsedUp limits edges request budget =
     ((budget.most_labels < 2 ^ 64 - 1) × HaveRests limits edges request (min budget.most_labels (2 ^ 32)))
-    ⊎ (budget.most_steps < 2 ^ 64 - 1)
+    ⊎ ((budget.most_steps < 2 ^ 64 - 1) × HaveSteps limits edges request budget.most_steps)
 
 -- the walk that sends least of all isn't within the limits
 abbrev pub IsBeyond : RouteLimits → List PointEdge → Request → Type 0

@@ -9,3 +9,4 @@ pub mod Relaxations
 pub mod SearchState
 pub mod Best
 pub mod Seeking
+pub mod Spending

@@ -89,7 +89,7 @@ impl Bounds {
     pub(crate) fn at(&self, node: u32) -> u64
         ensures { result ≡ number_at self.now node }
     {
-        self.reached.fees_to(node).min(self.radius)
+        self.reached.distance_to(node).min(self.radius)
     }
 
     /// The channel over which the forward search reached a node, if the node is within the radius.

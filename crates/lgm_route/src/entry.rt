@@ -3,7 +3,7 @@
 ghost use Rattle.std.specs.Prelude.{◌≡◌, ◌^◌, ◌-◌, ◌%◌, ◌/◌, ◌<◌, min};
 
 /// The greatest amount that an entry distinguishes, in msat: 2^33 - 1.
-const MOST_AMOUNT: u64 = 8_589_934_591;
+const MAX_PACKED_AMOUNT: u64 = 8_589_934_591;
 
 /// The number of indices that entries distinguish: 2^26.
 const PLACES: u64 = 67_108_864;
@@ -24,7 +24,7 @@ impl Entry {
         ensures amount { (2 ^ 64 - 1 - result.key) / 2 ^ 31 ≡ min amount (2 ^ 33 - 1) }
         ensures place { (2 ^ 64 - 1 - result.key) % 2 ^ 26 ≡ place % 2 ^ 26 }
     {
-        let amount = amount.min(MOST_AMOUNT);
+        let amount = amount.min(MAX_PACKED_AMOUNT);
         let order = (amount * COUNTS + hops as u64 % COUNTS) * PLACES + place as u64 % PLACES;
         Entry {
             key: u64::MAX - order,
@@ -47,7 +47,7 @@ impl Entry {
 
     /// Whether the amount is the original one; if not, that may be greater.
     pub(crate) fn is_exact(&self) -> bool {
-        self.amount() < MOST_AMOUNT
+        self.amount() < MAX_PACKED_AMOUNT
     }
 
     /// Whether both have the same amount, up to 2^33 - 1 msat, and the same number of edges.

@@ -102,11 +102,11 @@ impl<'a, V: RoutingGraph, P: Penalties> ForwardSearch<'a, V, P> {
 
     /// The fees to a node, in msat.
     #[inline(always)]
-    fn fees_to(&self, node: u32) -> u64
+    fn distance_to(&self, node: u32) -> u64
         ensures fees { result ≡ number_at self.now.dist node }
         ensures pass { IsForwardState self.now }
     {
-        self.reached.fees_to(node)
+        self.reached.distance_to(node)
     }
 
     /// The edges out of a node.
@@ -146,7 +146,7 @@ impl<'a, V: RoutingGraph, P: Penalties> ForwardSearch<'a, V, P> {
         if request.amount < edge.min || edge.max < request.amount || request.is_beyond(edge) {
             return Ok(());
         }
-        let most = (self.fees_to(edge.to) as u128).saturating_sub(start as u128);
+        let most = (self.distance_to(edge.to) as u128).saturating_sub(start as u128);
         let amount = start as u128 + charge(self.measure, request, edge, most);
         if let Some(fees) = self.lower(edge.to, amount, edge.scid)? {
             self.queue(edge.to, fees)?;
@@ -166,7 +166,7 @@ impl<'a, V: RoutingGraph, P: Penalties> ForwardSearch<'a, V, P> {
     fn spread(&mut self, node: u32) -> Result<(), AllocError>
         ensures { IsSameForwardState self.old self.new }
     {
-        let start = self.fees_to(node);
+        let start = self.distance_to(node);
         for edge in self.edges_leaving(node) {
             self.look(edge, start)?;
         }
@@ -182,11 +182,6 @@ impl<'a, V: RoutingGraph, P: Penalties> ForwardSearch<'a, V, P> {
         Some((next.place() % 0x1_0000_0000) as u32)
     }
 
-    /// Whether a node is the payee.
-    fn is_payee(&self, node: u32) -> bool {
-        node == self.request.payee
-    }
-
     /// Expands up to `steps` nodes, fewer if nodes have many edges.
     pub(crate) fn expand(&mut self, steps: usize) -> Result<(), AllocError>
         ensures { IsSameForwardState self.old self.new }
@@ -196,7 +191,7 @@ impl<'a, V: RoutingGraph, P: Penalties> ForwardSearch<'a, V, P> {
             let Some(node) = self.next() else {
                 break;
             };
-            if steps.saturating_mul(EDGES) <= looked || self.is_payee(node) {
+            if steps.saturating_mul(EDGES) <= looked || node == self.request.payee {
                 break;
             }
             looked = looked.saturating_add(self.edges_leaving(node).len());

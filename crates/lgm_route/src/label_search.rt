@@ -1,19 +1,21 @@
 //! The search for the best walk as one value.
 
-ghost use Rattle.std.specs.Prelude.{◌≡◌, ◌^◌, ◌-◌, ◌<◌, ◌≤◌, length, IfOk, IfErr, true, false, slice_index_or, ◌+◌, ◌*◌};
+ghost use Rattle.std.specs.Prelude.{ℕ, ◌≡◌, ◌^◌, ◌-◌, ◌<◌, ◌≤◌, length, min, IfOk, IfErr, true, false, slice_index_or, ◌+◌};
 ghost use Rattle.lgm_graph.specs.Graph.{edges, edges_into, AreListed};
 ghost use Rattle.lgm_route.specs.inner.Bounding.{AreLow};
 ghost use Rattle.lgm_route.specs.inner.Numbered.{asked, IsDelayOver};
 ghost use Rattle.lgm_route.specs.inner.Searching.{label_at, number_at, SomeRest, SomeWalk, IsOffered, IsBetter};
-ghost use Rattle.lgm_route.specs.inner.Searching.{IsUpperBound, IsDominatorOf, cost};
-ghost use Rattle.lgm_route.specs.inner.SearchState.{IsSearch, Extends, IsSettledAt, IsMarkedAt, IsFinished, IsHalted, IsPruned, bound_in};
+ghost use Rattle.lgm_route.specs.inner.Searching.{IsUpperBound, IsDominatorOf};
+ghost use Rattle.lgm_route.specs.inner.SearchState.{IsSearch, Extends, IsSettledAt, IsMarkedAt, IsFinished, bound_in};
+ghost use Rattle.lgm_route.specs.inner.SearchState.{Adds, IsStopped};
+ghost use Rattle.lgm_route.specs.inner.Spending.{compares_of, labels_of, is_marked};
 ghost use Rattle.lgm_route.specs.inner.Best.{IsBestWalk, IsWalkSoFar};
 ghost use Rattle.std.specs.Option.{option_map};
 
 use crate::bounds::{LowerBounds, Measure};
 use crate::halt::Halt;
 use crate::hops::rebuild;
-use crate::label::{Label, bound_of, cost, is_better};
+use crate::label::{Label, bound_of, is_better};
 use crate::limits::SearchBudget;
 use crate::pareto_fronts::{ParetoFronts, mark, offer};
 use crate::penalties::Penalties;
@@ -46,8 +48,10 @@ pub(crate) struct LabelSearch<'a, V: RoutingGraph, P: Penalties> {
     /// Which labels are settled.
     done: Vec<bool>,
     budget: SearchBudget,
-    /// The number of steps so far. No contract depends on it.
+    /// The number of steps so far: edges looked at, and labels compared. At 2^64 - 1 it stays.
     spent: u64,
+    /// Dives started at none but the labels below this index.
+    dived: usize,
 }
 
 impl<'a, V: RoutingGraph, P: Penalties> Model for LabelSearch<'a, V, P> {
@@ -56,10 +60,10 @@ impl<'a, V: RoutingGraph, P: Penalties> Model for LabelSearch<'a, V, P> {
 
     ghost Value = { SearchState };
 
-    ghost view = { λ s. state_of (V.graph s.view.now) (asked (P.terms s.request.penalties) s.request) s.low s.upper_bound s.budget s.labels.items s.best s.fronts s.done.items };
+    ghost view = { λ s. state_of (V.graph s.view.now) (asked (P.terms s.request.penalties) s.request) s.low s.upper_bound s.budget s.labels.items s.best s.fronts s.done.items s.spent s.dived };
 
     ghost invariant = { λ s. IsSearch
-        (state_of (V.graph s.view.now) (asked (P.terms s.request.penalties) s.request) s.low s.upper_bound s.budget s.labels.items s.best s.fronts s.done.items) };
+        (state_of (V.graph s.view.now) (asked (P.terms s.request.penalties) s.request) s.low s.upper_bound s.budget s.labels.items s.best s.fronts s.done.items s.spent s.dived) };
 }
 
 /// The label without edges.
@@ -94,7 +98,7 @@ impl<'a, V: RoutingGraph, P: Penalties> LabelSearch<'a, V, P> {
         requires low { AreLow (edges (V.graph view.now)) (asked (P.terms request.penalties) request) low }
         requires small { upper_bound ≤ 2 ^ 65 }
         requires upper_bound { IsUpperBound (edges (V.graph view.now)) (asked (P.terms request.penalties) request) upper_bound }
-        ensures { IfOk result (λ search. search.ground
+        ensures ground { IfOk result (λ search. search.ground
             ≡ record {
               graph = V.graph view.entry.now;
               request = asked (P.terms request.penalties) request;
@@ -102,6 +106,7 @@ impl<'a, V: RoutingGraph, P: Penalties> LabelSearch<'a, V, P> {
               upper_bound = upper_bound;
               budget = budget;
             }) }
+        ensures unspent { IfOk result (λ search. search.spent ≡ 0) }
     {
         let fronts = ParetoFronts::new(alloc, low.fees.len())?;
         let mut labels = Vec::new(alloc);
@@ -117,6 +122,7 @@ impl<'a, V: RoutingGraph, P: Penalties> LabelSearch<'a, V, P> {
             done: Vec::new(alloc),
             budget,
             spent: 0,
+            dived: 0,
         })
     }
 
@@ -214,7 +220,8 @@ impl<'a, V: RoutingGraph, P: Penalties> LabelSearch<'a, V, P> {
     /// compared.
     pub(crate) fn dominator(&self, i: usize) -> (usize, usize)
         requires { i < length self.now.labels }
-        ensures { IsDominatorOf self.now.ground.graph self.now.labels i result.0 }
+        ensures dominates { IsDominatorOf self.now.ground.graph self.now.labels i result.0 }
+        ensures compared { length self.now.labels < 2 ^ 32 → result.1 ≤ compares_of self.now.labels i }
     {
         let (found, compared) = self
             .fronts
@@ -236,7 +243,11 @@ impl<'a, V: RoutingGraph, P: Penalties> LabelSearch<'a, V, P> {
         ensures offered { IfOk result (λ _.
             IsOffered self.old.ground.graph self.old.ground.request self.old.labels new self.new.labels) }
         ensures best { IfOk result (λ _. self.new.best ≡ self.old.best) }
-        ensures halted { IfErr result (λ halt. IsHalted self.old self.new halt) }
+        ensures adds { Adds self.old self.new }
+        ensures spends { length self.new.labels < 2 ^ 32
+            → self.new.spent ≤ self.old.spent + labels_of self.new.labels new.node }
+        ensures grows { self.old.spent ≤ self.new.spent }
+        ensures stopped { IfErr result (λ halt. IsStopped self.old self.new halt) }
     {
         let compared = offer(
             self.view,
@@ -250,11 +261,13 @@ impl<'a, V: RoutingGraph, P: Penalties> LabelSearch<'a, V, P> {
         Ok(())
     }
 
-    /// Takes so many steps.
+    /// Takes so many steps, and stops the search if it may take fewer.
     #[inline(always)]
     pub(crate) fn spend(&mut self, steps: usize) -> Result<(), Halt>
-        ensures same { self.new ≡ self.old }
-        ensures halted { IfErr result (λ halt. IsHalted self.old self.new halt) }
+        ensures counted { self.new ≡ record self.old { spent = min (self.old.spent + steps) (2 ^ 64 - 1) } }
+        ensures within { IfOk result (λ _. self.new.spent ≤ self.new.ground.budget.most_steps) }
+        ensures grows { self.old.spent ≤ self.new.spent }
+        ensures stopped { IfErr result (λ halt. IsStopped self.old self.new halt) }
     {
         self.spent = self.spent.saturating_add(steps as u64);
         if self.budget.most_steps < self.spent {
@@ -263,11 +276,25 @@ impl<'a, V: RoutingGraph, P: Penalties> LabelSearch<'a, V, P> {
         Ok(())
     }
 
+    /// Notes that dives start at a label, unless they did. Returns whether they may.
+    pub(crate) fn may_dive(&mut self, i: usize) -> bool
+        ensures first { result ≡ true → (self.old.dived ≤ i) × (self.new ≡ record self.old { dived = i + 1 }) }
+        ensures stays { result ≡ false → self.new ≡ self.old }
+    {
+        if i < self.dived || i == usize::MAX {
+            return false;
+        }
+        self.dived = i + 1;
+        true
+    }
+
     /// Makes a walk the best so far, if it is better.
     pub(crate) fn improve(&mut self, new: Label)
         requires { SomeWalk self.old.ground.graph self.old.ground.request self.old.labels new }
         ensures extends { Extends self.old self.new }
         ensures labels { self.new.labels ≡ self.old.labels }
+        ensures spent { self.new.spent ≡ self.old.spent }
+        ensures dived { self.new.dived ≡ self.old.dived }
         ensures better { IsBetter self.old.ground.graph self.old.ground.request self.old.labels
             self.old.ground.upper_bound self.old.best new self.new.best }
     {
@@ -292,6 +319,9 @@ impl<'a, V: RoutingGraph, P: Penalties> LabelSearch<'a, V, P> {
         ensures here { IfOk result (λ _. IsMarkedAt self.new i) }
         ensures labels { self.new.labels ≡ self.old.labels }
         ensures ground { self.new.ground ≡ self.old.ground }
+        ensures still { (j : ℕ) → is_marked self.old.done j ≡ true → is_marked self.new.done j ≡ true }
+        ensures spent { self.new.spent ≡ self.old.spent }
+        ensures dived { self.new.dived ≡ self.old.dived }
     {
         mark(&mut self.done, i)?;
         Ok(())
@@ -313,75 +343,5 @@ impl<'a, V: RoutingGraph, P: Penalties> LabelSearch<'a, V, P> {
                 Ok(Some(walk))
             }
         }
-    }
-}
-
-impl<'a, V: RoutingGraph, P: Penalties> LabelSearch<'a, V, P> {
-    /// A lower bound on the cost of walks over the label.
-    #[inline(always)]
-    pub(crate) fn cost_lower_bound(&self, label: &Label) -> u128
-        ensures { result
-            ≡ cost (label.now.amount + label.now.penalty + number_at self.now.ground.low.fees label.now.node) label.now.hops }
-    {
-        cost(
-            label.amount as u128 + label.penalty as u128 + self.lower_bound(label.node) as u128,
-            label.hops as u128,
-        )
-    }
-
-    /// Relaxes a label, unless that was done.
-    fn close(&mut self, i: usize) -> Result<(), Halt>
-        requires { i < length self.old.labels }
-        ensures extends { IfOk result (λ _. Extends self.old self.new) }
-        ensures here { IfOk result (λ _. IsMarkedAt self.new i) }
-        ensures halted { IfErr result (λ halt. IsHalted self.old self.new halt) }
-    {
-        if self.is_done(i) {
-            return Ok(());
-        }
-        self.relax(i)?;
-        self.mark(i)?;
-        Ok(())
-    }
-
-    /// Settles a label: prunes it, or relaxes it or one that dominates it.
-    pub(crate) fn settle(&mut self, i: usize) -> Result<(), Halt>
-        requires { i < length self.old.labels }
-        ensures extends { IfOk result (λ _. Extends self.old self.new) }
-        ensures here { IfOk result (λ _. IsMarkedAt self.new i) }
-        ensures pruned { IsPruned self.old i → self.new.labels ≡ self.old.labels }
-        ensures halted { IfErr result (λ halt. IsHalted self.old self.new halt) }
-    {
-        if self.is_done(i) {
-            return Ok(());
-        }
-        let label = self.label(i);
-        if self.bound() <= self.cost_lower_bound(&label) {
-            self.mark(i)?;
-            return Ok(());
-        }
-        let (place, compared) = self.dominator(i);
-        self.spend(compared)?;
-        self.close(place)?;
-        if self.is_done(i) {
-            return Ok(());
-        }
-        self.mark(i)?;
-        Ok(())
-    }
-
-    /// Settles all remaining labels: then no usable walk is better than the best one.
-    pub(crate) fn sweep(&mut self) -> Result<(), Halt>
-        ensures finished { IfOk result (λ _. (self.new.ground ≡ self.old.ground) × IsFinished self.new) }
-        ensures halted { IfErr result (λ halt. IsHalted self.old self.new halt) }
-    {
-        for i in 0..usize::MAX {
-            if self.len() <= i {
-                return Ok(());
-            }
-            self.settle(i)?;
-        }
-        let _len = self.len();
-        Ok(())
     }
 }

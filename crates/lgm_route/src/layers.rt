@@ -109,16 +109,6 @@ impl Layers {
     }
 }
 
-impl<'a, V: RoutingGraph, P: Penalties> LabelSearch<'a, V, P> {
-    /// The number of labels of an early frontier that are worth a worker: an eighth of the network's nodes, so that the
-    /// search of a large network hardly ever starts threads early.
-    fn early_share(&self) -> usize
-        ensures { 1 ≤ result }
-    {
-        (self.nodes() / 8).clamp(1, SHARE)
-    }
-}
-
 impl<'a, V: RoutingGraph + Sync, P: Penalties + Sync> LabelSearch<'a, V, P> {
     /// Settles the first labels frontier by frontier: those with equal lower bounds together.
     fn settle_early<Rt: Threads + Sync, G: Gate>(
@@ -128,7 +118,8 @@ impl<'a, V: RoutingGraph + Sync, P: Penalties + Sync> LabelSearch<'a, V, P> {
     ) -> Result<(), Halt>
         ensures { IfOk result (λ _. Extends self.old self.new) }
     {
-        let share = self.early_share();
+        // An eighth of the network's nodes is worth a worker, so the search of a large one hardly ever starts threads.
+        let share = (self.nodes() / 8).clamp(1, SHARE);
         let mut settled = 0;
         while settled < EARLY {
             let frontier = queue.frontier(pool.alloc, self)?;
@@ -161,6 +152,21 @@ impl<'a, V: RoutingGraph + Sync, P: Penalties + Sync> LabelSearch<'a, V, P> {
         Ok(())
     }
 
+    /// Settles labels best-first, and, if many remain, by their number of edges.
+    fn settle_queue_and_layers<Rt: Threads + Sync, G: Gate>(
+        &mut self,
+        pool: &Pool<'_, Rt, G>,
+        queue: &mut Queue,
+    ) -> Result<(), Halt>
+        ensures { IfOk result (λ _. Extends self.old self.new) }
+    {
+        if self.settle_queue(queue, ALONE)? {
+            return Ok(());
+        }
+        self.settle_layers(pool)?;
+        Ok(())
+    }
+
     /// Settles all labels: the first ones frontier by frontier, then best-first, and, if many remain, by their number of
     /// edges.
     pub(crate) fn settle_chunked<Rt: Threads + Sync, G: Gate>(
@@ -171,9 +177,7 @@ impl<'a, V: RoutingGraph + Sync, P: Penalties + Sync> LabelSearch<'a, V, P> {
     {
         let mut queue = Queue::of(pool.alloc, self)?;
         self.settle_early(pool, &mut queue)?;
-        if !self.settle_queue(&mut queue, ALONE)? {
-            self.settle_layers(pool)?;
-        }
+        self.settle_queue_and_layers(pool, &mut queue)?;
         self.sweep()
     }
 }

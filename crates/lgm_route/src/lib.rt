@@ -2,11 +2,14 @@
 //!
 //! A [`Request`] names the payment, a [`Route`] the 1 to 20 channels that carry it, with the amount
 //! and the expiry on each, and a [`RouteFault`] why there is none.
+//!
+//! Where an error is `AllocError`, memory ran out.
 #![tactic(auto)]
 
 mod answers;
 mod best_route;
 mod bounds;
+mod dives;
 mod entry;
 mod fault;
 mod forward_search;
@@ -32,6 +35,7 @@ mod reasons;
 mod relaxation;
 mod request;
 mod search;
+mod settling;
 mod sought;
 mod walks;
 

@@ -4,8 +4,8 @@ ghost use Rattle.std.specs.Prelude.{IfSome, IfNone, ◌≡◌, ◌≤◌, ◌^�
 ghost use Rattle.lgm_route.specs.inner.Searching.{IsSpelled, AreSpelled, IsDominator, AreLabels, SomeRest, IsOffered};
 ghost use Rattle.lgm_route.specs.inner.Searching.{IsMarked};
 ghost use Rattle.lgm_route.specs.inner.Fronts.{first_in, next_in, HaveFronts, AreNewFronts, AreSameFronts, IsUndominated};
-ghost use Rattle.lgm_route.specs.inner.Fronts.{IsLinked, IsAdded, AreDistinct};
-ghost use Rattle.lgm_route.specs.inner.SearchState.{MayHalt};
+ghost use Rattle.lgm_route.specs.inner.Fronts.{IsLinked, IsAdded, AreDistinct, AreFalling};
+ghost use Rattle.lgm_route.specs.inner.Spending.{labels_of, IsRefused};
 ghost use Rattle.lgm_route.specs.inner.Numbered.{asked};
 
 use crate::halt::Halt;
@@ -117,6 +117,9 @@ impl ParetoFronts {
         requires label { IsSpelled (V.graph view.now) labels.now label.now }
         ensures found { IfSome result.0 (λ place. IsDominator (V.graph view.now) labels.now label.now place) }
         ensures none { IfNone result.0 (IsUndominated (V.graph view.now) labels.now self.now label.now) }
+        // No label is compared twice, and none of another node.
+        ensures few { AreFalling self.now (length labels.now) → length labels.now < 2 ^ 32
+            → result.1 ≤ labels_of labels.now label.now.node }
     {
         let mut place = self.first_of(label.node as usize);
         for step in 0..labels.len() {
@@ -178,8 +181,9 @@ pub(crate) fn offer<V: RoutingGraph, P: Penalties>(
         (λ _. IsOffered (V.graph view.now) (asked (P.terms request.now.penalties) request.now) labels.old.items new labels.new.items) }
     ensures fronts { HaveFronts (V.graph view.now) (asked (P.terms request.now.penalties) request.now) labels.new.items fronts.new }
     ensures distinct { AreDistinct (V.graph view.now) (asked (P.terms request.now.penalties) request.now) labels.new.items }
+    ensures compared { length labels.old.items < 2 ^ 32 → IfOk result (λ compared. compared ≤ labels_of labels.old.items new.node) }
     ensures stays { OnErr result (labels.new.items ≡ labels.old.items) }
-    ensures halted { IfErr result (λ halt. MayHalt budget.now labels.new.items halt) }
+    ensures refused { IfErr result (λ halt. IsRefused budget.now labels.new.items halt) }
 {
     let (found, compared) = fronts.find_dominator(view, labels, &new);
     if let Some(_place) = found {

@@ -53,13 +53,13 @@ impl Preferences {
             max.min(estimate.most),
             amount,
         );
-        let flat = estimate.penalty.min(MOST_PENALTY);
-        (u64::from(self.hop_msat) + flat + odds).min(MOST_PENALTY)
+        let flat = estimate.penalty.min(MAX_PENALTY);
+        (u64::from(self.hop_msat) + flat + odds).min(MAX_PENALTY)
     }
 }
 
 /// The greatest penalty of an edge, in msat: 2^40.
-const MOST_PENALTY: u64 = 0x100_0000_0000;
+const MAX_PENALTY: u64 = 0x100_0000_0000;
 
 /// What a failure costs times its odds.
 #[inline(always)]

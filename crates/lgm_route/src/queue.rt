@@ -1,9 +1,9 @@
 //! Settling labels best-first (A\*), and the frontiers of those with the least lower bound.
 
 ghost use Rattle.std.specs.Prelude.{◌≡◌, ◌<◌, length, All, IfOk, IfErr, IfSome};
-ghost use Rattle.lgm_route.specs.inner.SearchState.{Extends, IsFinished, IsHalted};
+ghost use Rattle.lgm_route.specs.inner.SearchState.{Extends, IsFinished, IsHalted, IsPaid};
 
-use crate::bounds::Measure;
+use crate::dives::Dives;
 use crate::entry::Entry;
 use crate::halt::Halt;
 use crate::label::cost;
@@ -29,6 +29,7 @@ impl Queue {
         search: &mut LabelSearch<'_, V, P>,
     ) -> Result<Queue, Halt>
         ensures extends { IfOk result (λ _. Extends search.old search.new) }
+        ensures pays { IfOk result (λ _. IsPaid search.old → IsPaid search.new) }
         ensures halted { IfErr result (λ halt. IsHalted search.old search.new halt) }
     {
         let mut queue = Queue {
@@ -46,6 +47,7 @@ impl Queue {
         search: &mut LabelSearch<'_, V, P>,
     ) -> Result<(), Halt>
         ensures extends { IfOk result (λ _. Extends search.old search.new) }
+        ensures pays { IfOk result (λ _. IsPaid search.old → IsPaid search.new) }
         ensures halted { IfErr result (λ halt. IsHalted search.old search.new halt) }
     {
         for i in self.queued..usize::MAX {
@@ -172,6 +174,7 @@ impl<'a, V: RoutingGraph, P: Penalties> LabelSearch<'a, V, P> {
     /// Settles the labels of a queue best-first until there are many. Returns whether the remaining ones can be pruned.
     fn settle_first(&mut self, queue: &mut Queue) -> Result<bool, Halt>
         ensures extends { IfOk result (λ _. Extends self.old self.new) }
+        ensures pays { IfOk result (λ _. IsPaid self.old → IsPaid self.new) }
         ensures halted { IfErr result (λ halt. IsHalted self.old self.new halt) }
     {
         for _turn in 0..usize::MAX {
@@ -188,6 +191,7 @@ impl<'a, V: RoutingGraph, P: Penalties> LabelSearch<'a, V, P> {
     /// Looks for a quick walk, unless some walk was found, and queues the labels that this adds.
     fn seek_quick_walk(&mut self, alloc: Global, queue: &mut Queue) -> Result<(), Halt>
         ensures extends { IfOk result (λ _. Extends self.old self.new) }
+        ensures pays { IfOk result (λ _. IsPaid self.old → IsPaid self.new) }
         ensures halted { IfErr result (λ halt. IsHalted self.old self.new halt) }
     {
         if self.has_walk() {
@@ -202,6 +206,7 @@ impl<'a, V: RoutingGraph, P: Penalties> LabelSearch<'a, V, P> {
     #[inline(always)]
     fn settle_next(&mut self, queue: &mut Queue) -> Result<bool, Halt>
         ensures extends { IfOk result (λ _. Extends self.old self.new) }
+        ensures pays { IfOk result (λ _. IsPaid self.old → IsPaid self.new) }
         ensures halted { IfErr result (λ halt. IsHalted self.old self.new halt) }
     {
         let Some(i) = queue.next(self) else {
@@ -216,6 +221,7 @@ impl<'a, V: RoutingGraph, P: Penalties> LabelSearch<'a, V, P> {
     /// until some walk is found. Returns whether the remaining ones can be pruned.
     pub(crate) fn settle_queue(&mut self, queue: &mut Queue, most: usize) -> Result<bool, Halt>
         ensures extends { IfOk result (λ _. Extends self.old self.new) }
+        ensures pays { IfOk result (λ _. IsPaid self.old → IsPaid self.new) }
         ensures halted { IfErr result (λ halt. IsHalted self.old self.new halt) }
     {
         for turn in 0..usize::MAX {
@@ -232,50 +238,3 @@ impl<'a, V: RoutingGraph, P: Penalties> LabelSearch<'a, V, P> {
 
 /// The number of labels without a walk behind which a quick walk is looked for.
 const PATIENCE: usize = 4_000;
-
-/// The maximum number of dives of a search.
-const MOST_DIVES: u32 = 64;
-
-/// The dives of a search: each starts at a label with a smaller lower bound than those before.
-#[derive(Drop)]
-pub(crate) struct Dives {
-    /// The smallest lower bound so far, in msat above the request's amount.
-    least: u64,
-    left: u32,
-}
-
-impl Dives {
-    pub(crate) fn new() -> Dives {
-        Dives {
-            least: u64::MAX,
-            left: MOST_DIVES,
-        }
-    }
-
-    /// Dives from a label with this bound along the ways from the payer, if it is smaller than those before and the label's
-    /// node is near the payer.
-    #[inline(always)]
-    pub(crate) fn dive<V: RoutingGraph, P: Penalties>(
-        &mut self,
-        search: &mut LabelSearch<'_, V, P>,
-        i: usize,
-        excess_lower_bound: u64,
-    ) -> Result<(), Halt>
-        requires { i < length search.old.labels }
-        ensures extends { IfOk result (λ _. Extends search.old search.new) }
-        ensures halted { IfErr result (λ halt. IsHalted search.old search.new halt) }
-    {
-        let node = search.label(i).node;
-        if self.least <= excess_lower_bound
-            || self.left == 0
-            || search.channel_to(Measure::Fees, node).is_none()
-        {
-            return Ok(());
-        }
-        self.least = excess_lower_bound;
-        self.left -= 1;
-        search.dive(i, Measure::Fees)?;
-        search.dive(i, Measure::Delays)?;
-        Ok(())
-    }
-}

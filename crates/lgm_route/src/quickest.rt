@@ -1,7 +1,7 @@
 //! Settling labels by their delay, for a walk within a limit that most of the cheaper ones exceed.
 
 ghost use Rattle.std.specs.Prelude.{IfOk, IfErr};
-ghost use Rattle.lgm_route.specs.inner.SearchState.{Extends, IsHalted};
+ghost use Rattle.lgm_route.specs.inner.SearchState.{Extends, IsHalted, IsPaid};
 
 use crate::entry::Entry;
 use crate::halt::Halt;
@@ -64,6 +64,7 @@ impl<'a, V: RoutingGraph, P: Penalties> LabelSearch<'a, V, P> {
     /// Settles the quickest label of each node, until some walk is found.
     pub(crate) fn settle_quickest(&mut self, alloc: Global) -> Result<(), Halt>
         ensures extends { IfOk result (λ _. Extends self.old self.new) }
+        ensures pays { IfOk result (λ _. IsPaid self.old → IsPaid self.new) }
         ensures halted { IfErr result (λ halt. IsHalted self.old self.new halt) }
     {
         let mut quickest = Quickest::new(alloc, self.nodes())?;
@@ -81,6 +82,7 @@ impl<'a, V: RoutingGraph, P: Penalties> LabelSearch<'a, V, P> {
     /// Settles the next label if it is the quickest of its node. Returns whether there was one.
     fn settle_next_quickest(&mut self, quickest: &mut Quickest) -> Result<bool, Halt>
         ensures extends { IfOk result (λ _. Extends self.old self.new) }
+        ensures pays { IfOk result (λ _. IsPaid self.old → IsPaid self.new) }
         ensures halted { IfErr result (λ halt. IsHalted self.old self.new halt) }
     {
         quickest.fill(self)?;

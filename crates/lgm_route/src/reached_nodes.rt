@@ -1,12 +1,14 @@
 //! The nodes that a forward search reached.
 
-ghost use Rattle.std.specs.Prelude.{◌≡◌, ◌≢◌, ◌^◌, ◌<◌, ◌≤◌, ℕ, Some, [], false, length, slice_index_or, OnOk, OnErr, IfOk};
+ghost use Rattle.std.specs.Prelude.{◌≡◌, ◌≢◌, ◌^◌, ◌<◌, ◌≤◌, ℕ, Some, [], false, length, OnOk, OnErr, IfOk};
 ghost use Rattle.std.specs.Option.{option_copied};
 ghost use Rattle.lgm_route.specs.inner.Bounding.{IsLowered, IsShut, IsRadius, is_closed};
-ghost use Rattle.lgm_route.specs.inner.Reaching.{found, place_of, fees_in, closed_in};
+ghost use Rattle.lgm_route.specs.inner.Reaching.{found, fees_in, closed_in};
+ghost use Rattle.lgm_graph.specs.Places.{place_of};
 ghost use Rattle.lgm_route.specs.inner.Searching.{number_at};
 
 use lgm_gossip::Scid;
+use lgm_graph::{no_places, place_in};
 use std::alloc::{AllocError, Global};
 use std::marker::Model;
 
@@ -59,14 +61,6 @@ impl Model for ReachedNodes {
     ghost invariant = { λ r. ArePlaced (record { places = r.places.items; nodes = r.nodes.items }) };
 }
 
-/// This many numbers without places.
-fn no_places(alloc: Global, count: usize) -> Result<Vec<u32>, AllocError>
-    ensures long { IfOk result (λ places. length places.items ≡ count) }
-    ensures none { IfOk result (λ places. (node : ℕ) → slice_index_or places.items node 0 ≡ 0) }
-{
-    vec![in alloc; 0; count]
-}
-
 impl ReachedNodes {
     /// None of this many nodes was reached.
     pub(crate) fn new(alloc: Global, count: usize) -> Result<ReachedNodes, AllocError>
@@ -102,10 +96,7 @@ impl ReachedNodes {
     fn place_of(&self, node: u32) -> usize
         ensures { result ≡ place_of self.now node }
     {
-        match self.places.get(node as usize) {
-            Some(place) => *place as usize,
-            None => 0,
-        }
+        place_in(&self.places, node) as usize
     }
 
     /// What is known of a node, if it was reached.
@@ -122,7 +113,7 @@ impl ReachedNodes {
 
     /// The fees to a node, in msat; 0 for an unknown number.
     #[inline(always)]
-    pub(crate) fn fees_to(&self, node: u32) -> u64
+    pub(crate) fn distance_to(&self, node: u32) -> u64
         ensures { result ≡ number_at (fees_in self.now) node }
     {
         if self.places.len() <= node as usize {
@@ -151,8 +142,8 @@ impl ReachedNodes {
         }
     }
 
-    /// Lowers the fees to a node, which is reached over this channel, if they are higher, and returns them then. The node is
-    /// open then. The only error is out of memory, which changes nothing.
+    /// Lowers the fees to a node, which is reached over this channel, if they are higher, and returns them then. The
+    /// node is open then. Out of memory changes nothing.
     #[inline(always)]
     pub(crate) fn lower(
         &mut self,
@@ -165,7 +156,7 @@ impl ReachedNodes {
             (fees_in self.new) (closed_in self.new)) }
         ensures stays { OnErr result (self.new ≡ self.old) }
     {
-        if self.fees_to(node) as u128 <= amount {
+        if self.distance_to(node) as u128 <= amount {
             return Ok(None);
         }
         let fees = amount as u64;
@@ -178,7 +169,7 @@ impl ReachedNodes {
         Ok(Some(fees))
     }
 
-    /// Sets what is known of a node. The only error is out of memory, which changes nothing.
+    /// Sets what is known of a node. Out of memory changes nothing.
     #[inline(always)]
     fn put(&mut self, reached: Reached) -> Result<(), AllocError>
         requires { reached.node < length self.old.places }

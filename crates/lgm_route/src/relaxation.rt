@@ -1,19 +1,17 @@
 //! Relaxation of labels over edges.
 
-ghost use Rattle.std.specs.Prelude.{◌≡◌, ◌<◌, ◌≤◌, length, IfOk, IfErr, IfSome};
+ghost use Rattle.std.specs.Prelude.{◌≡◌, ◌+◌, ◌-◌, ◌^◌, ◌<◌, ◌≤◌, length, min, IfOk, IfErr};
+ghost use Rattle.lgm_graph.specs.Graph.{edges_into};
 ghost use Rattle.lgm_route.specs.inner.Searching.{label_at, first_of};
 ghost use Rattle.lgm_route.specs.inner.Relaxations.{IsRelaxationOf};
-ghost use Rattle.lgm_route.specs.inner.SearchState.{Extends, IsHalted, IsIntoAt, IsRelaxationAt, IsRelaxedOn, IsLeftAt, bound_in};
+ghost use Rattle.lgm_route.specs.inner.SearchState.{Adds, Extends, IsStopped, IsIntoAt, IsRelaxationAt, IsRelaxedOn, IsLeftAt, bound_in};
+ghost use Rattle.lgm_route.specs.inner.Spending.{labels_of, looks_from};
 
-use crate::bounds::Measure;
 use crate::halt::Halt;
 use crate::label::{Label, cost};
 use crate::label_search::LabelSearch;
 use crate::penalties::Penalties;
 use lgm_graph::{Edge, RoutingGraph, fee};
-
-/// The maximum number of edges of a dive.
-const MOST_EDGES: u16 = 19;
 
 impl<'a, V: RoutingGraph, P: Penalties> LabelSearch<'a, V, P> {
     /// The relaxation of a label over one edge into its node, where no walk of this cost is better: a whole walk if the
@@ -84,7 +82,11 @@ impl<'a, V: RoutingGraph, P: Penalties> LabelSearch<'a, V, P> {
         ensures extends { IfOk result (λ _. Extends self.old self.new) }
         ensures passed { IfOk result (λ _.
             IsRelaxedOn self.old new.parent (first_of self.old.ground.graph self.old.labels new) self.new) }
-        ensures halted { IfErr result (λ halt. IsHalted self.old self.new halt) }
+        ensures adds { Adds self.old self.new }
+        ensures spends { length self.new.labels < 2 ^ 32
+            → self.new.spent ≤ self.old.spent + labels_of self.new.labels new.node }
+        ensures grows { self.old.spent ≤ self.new.spent }
+        ensures stopped { IfErr result (λ halt. IsStopped self.old self.new halt) }
     {
         // The contract of `len` says that labels represent rests.
         let _len = self.len();
@@ -111,7 +113,11 @@ impl<'a, V: RoutingGraph, P: Penalties> LabelSearch<'a, V, P> {
         requires into { IsIntoAt self.old i at edge.now }
         ensures extends { IfOk result (λ _. Extends self.old self.new) }
         ensures passed { IfOk result (λ _. IsRelaxedOn self.old i edge.now self.new) }
-        ensures halted { IfErr result (λ halt. IsHalted self.old self.new halt) }
+        ensures adds { Adds self.old self.new }
+        ensures spends { length self.new.labels < 2 ^ 32
+            → self.new.spent ≤ self.old.spent + labels_of self.new.labels edge.now.from }
+        ensures grows { self.old.spent ≤ self.new.spent }
+        ensures stopped { IfErr result (λ halt. IsStopped self.old self.new halt) }
     {
         match self.relaxation(bound, i, label, at, edge) {
             None => Ok(()),
@@ -127,7 +133,13 @@ impl<'a, V: RoutingGraph, P: Penalties> LabelSearch<'a, V, P> {
         requires { i < length self.old.labels }
         ensures extends { IfOk result (λ _. Extends self.old self.new) }
         ensures left { IfOk result (λ _. IsLeftAt self.old i self.new) }
-        ensures halted { IfErr result (λ halt. IsHalted self.old self.new halt) }
+        ensures adds { Adds self.old self.new }
+        ensures spends { length self.new.labels < 2 ^ 32
+            → self.new.spent ≤ self.old.spent + looks_from self.old.ground.graph self.new.labels i }
+        // Each of the edges is a step.
+        ensures counted { IfOk result (λ _.
+            min (self.old.spent + length (edges_into self.old.ground.graph (label_at self.old.labels i).node)) (2 ^ 64 - 1) ≤ self.new.spent) }
+        ensures stopped { IfErr result (λ halt. IsStopped self.old self.new halt) }
     {
         let label = self.label(i);
         // A walk that is found meanwhile lowers the bound, which only matters for the labels to come.
@@ -138,60 +150,5 @@ impl<'a, V: RoutingGraph, P: Penalties> LabelSearch<'a, V, P> {
             self.relax_edge(bound, i, &label, at, &edges[at])?;
         }
         Ok(())
-    }
-
-    /// Extends a label's rest along the cheapest or the quickest way from the payer, as far as it is known, so that some walk
-    /// is found early.
-    pub(crate) fn dive(&mut self, i: usize, measure: Measure) -> Result<(), Halt>
-        requires { i < length self.old.labels }
-        ensures extends { IfOk result (λ _. Extends self.old self.new) }
-        ensures halted { IfErr result (λ halt. IsHalted self.old self.new halt) }
-    {
-        let mut here = i;
-        for _step in 0..MOST_EDGES {
-            let last = self.len();
-            let label = self.label(here);
-            let edges = self.edges_into(label.node);
-            let Some(at) = self.next_edge(measure, label.node, edges) else {
-                break;
-            };
-            let bound = self.bound();
-            self.relax_edge(bound, here, &label, at, &edges[at])?;
-            if self.len() <= last {
-                break;
-            }
-            here = last;
-        }
-        Ok(())
-    }
-
-    /// The index of the edge that leads to a node on the way from the payer, among those into the node.
-    fn next_edge(&self, measure: Measure, node: u32, edges: &[Edge]) -> Option<usize>
-        ensures { IfSome result (λ at. at < length edges.now) }
-    {
-        let over = self.channel_to(measure, node)?;
-        let mut low = 0;
-        let mut high = edges.len();
-        for _step in 0..64 {
-            if high <= low {
-                break;
-            }
-            let middle = low + (high - low) / 2;
-            if edges[middle].scid < over {
-                low = middle + 1;
-            } else {
-                high = middle;
-            }
-        }
-        if low < edges.len() && edges[low].scid == over {
-            return Some(low);
-        }
-        // Lists with extra edges aren't in the order of ids.
-        for at in 0..edges.len() {
-            if edges[at].scid == over {
-                return Some(at);
-            }
-        }
-        None
     }
 }

@@ -12,10 +12,10 @@ use lgm_graph::Edge;
 use std::marker::Model;
 
 /// The greatest amount of a payment, in msat.
-const MOST_AMOUNT: u64 = 2_100_000_000_000_000_000;
+const MAX_AMOUNT: u64 = 2_100_000_000_000_000_000;
 
 /// The greatest expiry of a payment, a block height.
-const MOST_EXPIRY: u32 = 498_000_000;
+const MAX_EXPIRY: u32 = 498_000_000;
 
 /// A payment for which a route is requested.
 #[derive(Clone, Copy, Debug, PartialEq, Eq)]
@@ -37,9 +37,9 @@ impl Request {
     {
         if self.amount == 0 {
             Some(RouteFault::AmountZero)
-        } else if MOST_AMOUNT < self.amount {
+        } else if MAX_AMOUNT < self.amount {
             Some(RouteFault::AmountTooLarge)
-        } else if MOST_EXPIRY < self.expiry {
+        } else if MAX_EXPIRY < self.expiry {
             Some(RouteFault::ExpiryTooLarge)
         } else if self.payer == self.payee {
             Some(RouteFault::SelfPayment)

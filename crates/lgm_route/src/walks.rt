@@ -101,7 +101,7 @@ pub(crate) fn walk_pooled<Rt: Threads + Sync, G: Gate, V: RoutingGraph + Sync, P
 }
 
 /// The greatest penalties of the edges of a walk, in msat.
-const MOST_PENALTIES: u128 = 20 << 40;
+const MAX_PENALTIES: u128 = 20 << 40;
 
 /// An amount in msat above what any walk costs: its first edge carries at most the greatest maximum of the edges out of
 /// the payer.
@@ -118,5 +118,5 @@ fn most_sent<V: RoutingGraph, P: Penalties>(view: &V, request: &NumberedRequest<
             most = max;
         }
     }
-    most + MOST_PENALTIES
+    most + MAX_PENALTIES
 }

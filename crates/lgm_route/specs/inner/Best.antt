@@ -1,5 +1,5 @@
 -- The result of the search: the best walk over numbered edges, whose amount fits 64 bits.
-use Rattle.std.specs.Prelude.{◌≡◌, ◌≢◌, ◌⊎◌, ℕ, ◌+◌, ◌-◌, ◌<◌, ◌≤◌, ◌^◌, min, All, AllPairs, Bool, true, false, ◌&&◌, nat_le, List, Option, Some, None, Result, Ok, Err, map, length, slice_index_or}
+use Rattle.std.specs.Prelude.{◌≡◌, ◌≢◌, ◌⊎◌, ℕ, ◌+◌, ◌-◌, ◌*◌, ◌<◌, ◌≤◌, ◌^◌, ◌==◌, [], ◌∷◌, count_by, sum_by, if◌then◌else◌, min, All, AllPairs, Bool, true, false, ◌&&◌, nat_le, List, Option, Some, None, Result, Ok, Err, map, length, slice_index_or}
 use Rattle.std.specs.List.{AllByRecursion, position}
 use Rattle.lgm_wire.specs.declared.point.Point.{Point}
 use Rattle.lgm_graph.specs.Edges.{PointEdge}
@@ -119,11 +119,40 @@ pub record HaveRests (edges : List Edge) (request : Ask) (count : ℕ) : Type 0 
   pub within : All (IsRestWithin edges request) rests
   pub different : AllPairs (λ rest other. rest ≢ other) rests
 
--- the budget can run out: there are as many as there may be labels, or 2^32; or there is a maximum of steps
+-- the node at which a rest begins
+abbrev pub start_of : Ask → List Edge → ℕ
+start_of request [] = request.payee
+start_of request (edge ∷ rest) = edge.from
+
+-- how many of the rests begin at a node
+abbrev pub rests_at : Ask → List (List Edge) → ℕ → ℕ
+rests_at request rests node = count_by (λ rest. start_of request rest == node) rests
+
+-- the steps of extending a rest that begins at a node
+abbrev pub looks_at : Ask → List Edge → List (List Edge) → ℕ → ℕ
+looks_at request edges rests node =
+    sum_by (λ edge. if edge.to == node then 1 + rests_at request rests edge.from else 0) edges
+
+-- the steps of a rest
+abbrev pub steps_at : Ask → List Edge → List (List Edge) → ℕ → ℕ
+steps_at request edges rests node = 4 * looks_at request edges rests node + rests_at request rests node
+
+-- the most steps of a search that makes these rests
+abbrev pub steps_of : Ask → List Edge → List (List Edge) → ℕ
+steps_of request edges rests = sum_by (λ rest. steps_at request edges rests (start_of request rest)) rests
+
+-- there are different ones of which a search may take more steps than these, or 2^32
+pub record HaveSteps (edges : List Edge) (request : Ask) (steps : ℕ) : Type 0 where
+  pub rests : List (List Edge)
+  pub many : (steps < steps_of request edges rests) ⊎ (2 ^ 32 ≤ length rests)
+  pub within : All (IsRestWithin edges request) rests
+  pub different : AllPairs (λ rest other. rest ≢ other) rests
+
+-- the budget can run out: there are as many as there may be labels, or 2^32; or some that may take more steps than there may be
 abbrev pub IsUsedUp : List Edge → Ask → SearchBudget → Type 0
 IsUsedUp edges request budget =
     ((budget.most_labels < 2 ^ 64 - 1) × HaveRests edges request (min budget.most_labels (2 ^ 32)))
-    ⊎ (budget.most_steps < 2 ^ 64 - 1)
+    ⊎ ((budget.most_steps < 2 ^ 64 - 1) × HaveSteps edges request budget.most_steps)
 
 -- any number of labels and steps
 abbrev pub any_budget : SearchBudget

@@ -44,8 +44,22 @@ pub record IsServed (graph : Graph) (request : Ask) (labels : List Label) (front
   pub is : IsLabel graph request labels (label_at labels i) rest
   pub covered : IsCoveredAt graph request labels fronts (label_at labels i).node rest
 
+-- the index is below this one, or ends a front
+abbrev pub IsBelow : ℕ → ℕ → Type 0
+IsBelow place i = (place < i) ⊎ (place ≡ 2 ^ 32 - 1)
+
+-- behind each of the first so many indices in a front is one below it
+abbrev pub FallsWithin : List ℕ → ℕ → Type 0
+FallsWithin following count = (i : ℕ) → i < count → IsBelow (next_in following i) i
+
+-- so no index is in a front twice
+pub record AreFalling (fronts : Fronts) (count : ℕ) : Type 0 where
+  pub first : (node : ℕ) → first_in fronts.first node < count
+  pub following : FallsWithin fronts.following count
+
 pub record AreFronts (graph : Graph) (request : Ask) (labels : List Label) (fronts : Fronts) : Type 0 where
   pub long : length labels ≤ length fronts.following
+  pub falling : AreFalling fronts (length labels)
   pub served : (i : ℕ) → i < length labels → IsServed graph request labels fronts i
 
 -- fronts store indices of 32 bits
@@ -55,6 +69,7 @@ HaveFronts graph request labels fronts = length labels ≤ 2 ^ 32 → AreFronts 
 -- each node's front begins at the first label
 pub record AreNewFronts (fronts : Fronts) : Type 0 where
   pub first : (node : ℕ) → first_in fronts.first node ≡ 0
+  pub following : next_in fronts.following 0 ≡ 2 ^ 32 - 1
   pub long : 1 ≤ length fronts.following
 
 -- the same fronts
@@ -75,6 +90,8 @@ pub record IsLinked (graph : Graph) (labels : List Label) (new : Label) (start :
   pub covered : (request : Ask) (rest : List Edge) → SomeRest graph request labels new
       → IsCovered graph request labels following new.node (length labels) start rest
       → IsCovered graph request (labels ++ new ∷ []) after new.node (length labels + 1) (length labels) rest
+  pub falling : length labels < 2 ^ 32 → FallsWithin following (length labels) → IsBelow start (length labels)
+      → FallsWithin after (length labels + 1)
 
 -- fronts remain fronts with a new label
 abbrev pub IsAdded : Graph → List Label → Label → Fronts → Fronts → Type 0

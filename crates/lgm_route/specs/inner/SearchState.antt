@@ -12,6 +12,7 @@ use Rattle.lgm_route.specs.inner.Bounding.{AreLow}
 use Rattle.lgm_route.specs.inner.Searching.{Low, label_at, number_at, cost, bound_of, IsSettled, AreLabels, IsFound, Grows}
 use Rattle.lgm_route.specs.inner.Searching.{RelaxesOn, RelaxesAll, AreSettled, IsNoBetter, IsUpperBound}
 use Rattle.lgm_route.specs.inner.Fronts.{Fronts, HaveFronts, AreDistinct}
+use Rattle.lgm_route.specs.inner.Spending.{HasMore, IsRefused, is_marked, allowed, most_allowed, looks_from}
 use Rattle.lgm_route.specs.inner.Relaxations.{IsInto, IsRelaxation, AreRelaxations}
 
 -- the edges, the request, lower bounds from the payer to each node, and an upper bound on the best walk
@@ -30,14 +31,20 @@ pub record SearchState : Type 0 where
   pub best : Option Label
   pub fronts : Fronts
   pub done : List Bool
+  -- the steps so far: the edges that were looked at, and the labels that were compared
+  pub spent : ℕ
+  -- dives started at none but the first so many labels
+  pub dived : ℕ
 
-abbrev pub state_of : Graph → Ask → Low → ℕ → SearchBudget → List Label → Option Label → Fronts → List Bool → SearchState
-state_of graph request low upper_bound budget labels best fronts done = record {
+abbrev pub state_of : Graph → Ask → Low → ℕ → SearchBudget → List Label → Option Label → Fronts → List Bool → ℕ → ℕ → SearchState
+state_of graph request low upper_bound budget labels best fronts done spent dived = record {
   ground = record { graph = graph; request = request; low = low; upper_bound = upper_bound; budget = budget };
   labels = labels;
   best = best;
   fronts = fronts;
   done = done;
+  spent = spent;
+  dived = dived;
 }
 
 pub record IsGround (ground : Ground) : Type 0 where
@@ -65,17 +72,41 @@ pub record Extends (before after : SearchState) : Type 0 where
       after.labels after.best
   pub still : (i : ℕ) → slice_index_or before.done i false ≡ true → slice_index_or after.done i false ≡ true
 
--- a search of so many labels may stop: memory was refused, or there are as many labels as there may be, or it took as
--- many steps as it may
-abbrev pub MayHalt : SearchBudget → List Label → Halt → Type 0
-MayHalt budget labels NoMemory = Unit {0}
-MayHalt budget labels Labels = (budget.most_labels ≤ length labels) × (budget.most_labels < 2 ^ 64 - 1)
-MayHalt budget labels Steps = budget.most_steps < 2 ^ 64 - 1
+-- the same search, perhaps in the middle of a relaxation: labels were added
+pub record Adds (before after : SearchState) : Type 0 where
+  pub ground : after.ground ≡ before.ground
+  pub more : HasMore before.labels after.labels
+  pub still : (i : ℕ) → is_marked before.done i ≡ true → is_marked after.done i ≡ true
+  pub dived : after.dived ≡ before.dived
+
+-- the steps so far are those of labels that were settled, and of dives. Only the first 2^32 labels are in fronts
+pub record IsPaid (state : SearchState) : Type 0 where
+  pub few : length state.labels < 2 ^ 32
+      → state.spent ≤ allowed state.ground.graph state.labels (length state.labels) state.dived state.done
+
+-- a search stops: memory was refused, or there are as many labels as there may be, or it took more steps than it may
+abbrev pub HasReached : SearchState → Halt → Type 0
+HasReached state NoMemory = Unit {0}
+HasReached state Labels = IsRefused state.ground.budget state.labels Labels
+HasReached state Steps = (state.ground.budget.most_steps < state.spent) × (state.ground.budget.most_steps < 2 ^ 64 - 1)
+
+-- and the steps are no more than its labels take
+abbrev pub MayHalt : SearchState → Halt → Type 0
+MayHalt state NoMemory = Unit {0}
+MayHalt state Labels = HasReached state Labels
+MayHalt state Steps =
+    HasReached state Steps
+    × (length state.labels < 2 ^ 32 → state.spent ≤ most_allowed state.ground.graph state.labels)
+
+-- the same search, which stopped in the middle of a relaxation
+pub record IsStopped (before after : SearchState) (halt : Halt) : Type 0 where
+  pub ground : after.ground ≡ before.ground
+  pub reached : HasReached after halt
 
 -- the same search, which stopped
 pub record IsHalted (before after : SearchState) (halt : Halt) : Type 0 where
   pub ground : after.ground ≡ before.ground
-  pub may : MayHalt after.ground.budget after.labels halt
+  pub may : IsPaid before → MayHalt after halt
 
 -- the bound that a better walk is below
 abbrev pub bound_in : SearchState → ℕ
@@ -129,9 +160,18 @@ IsLeftAt before i after =
     RelaxesAll before.ground.graph before.ground.request before.ground.low before.ground.upper_bound before.labels i
     after.labels after.best
 
+-- what a dive from a label takes beside what dives that pass labels do
+abbrev pub IsDiveFrom : ℕ → SearchState → SearchState → Type 0
+IsDiveFrom i before after =
+    (dived more : ℕ) → length after.labels < 2 ^ 32
+    → before.spent ≤ allowed before.ground.graph before.labels (length before.labels) dived before.done + more
+    → after.spent ≤ allowed before.ground.graph after.labels (length after.labels) dived after.done + more
+    + looks_from before.ground.graph after.labels i
+
 -- a new search over the graph for the request
 pub record IsBegun (graph : Graph) (request : Ask) (budget : SearchBudget) (state : SearchState) : Type 0 where
   pub graph_is : state.ground.graph ≡ graph
   pub request_is : state.ground.request ≡ request
   pub budget_is : state.ground.budget ≡ budget
+  pub paid : IsPaid state
   pub upper_bound : IsUpperBound (edges state.ground.graph) state.ground.request state.ground.upper_bound

@@ -14,7 +14,8 @@ use Rattle.lgm_route.specs.declared.request.Request.{Request}
 use Rattle.lgm_route.specs.declared.request.NumberedRequest.{NumberedRequest}
 use Rattle.lgm_route.proofs.HopLaws.{length_hops}
 use Rattle.lgm_route.proofs.Rests.{carried_under}
-use Rattle.lgm_route.proofs.PointWalkLaws.{used_over, walk_numbered}
+use Rattle.lgm_route.proofs.PointWalkLaws.{used_over}
+use Rattle.lgm_route.proofs.WalkOrderLaws.{walk_numbered}
 use Rattle.lgm_route.proofs.FoundRoutes.{best_route, some_route, walk_fault}
 use Rattle.lgm_route.specs.inner.Best as numbers
 use Rattle.lgm_route.proofs.best_route.with_route.Goals as goal

@@ -2,7 +2,7 @@ use Rattle.std.proofs.Common.{◌≡◌, ◌<◌, ◌-◌, ◌^◌, ◌∙◌, �
 use Rattle.std.proofs.lemmas.List.{get_or_default}
 use Rattle.lgm_route.specs.inner.Searching.{label_at}
 use Rattle.lgm_route.specs.inner.Fronts.{next_in, IsLinked}
-use Rattle.lgm_route.proofs.FrontLaws.{new_at, next-set_same, linked_first, linked_over}
+use Rattle.lgm_route.proofs.NewFrontLaws.{new_at, next-set_same, linked_first, linked_over}
 use Rattle.lgm_route.proofs.Labels.{label_left}
 use Rattle.lgm_route.proofs.pareto_fronts.link.Goals as goal
 use Rattle.lgm_route.proofs.pareto_fronts.link.Goals.{then-dominates, else-dominates}

@@ -4,8 +4,9 @@ use Rattle.std.proofs.lemmas.List.{length_push}
 use Rattle.lgm_route.specs.inner.Searching.{AreSpelled, IsDominator, IsOffered}
 use Rattle.lgm_route.specs.inner.Numbered.{asked}
 use Rattle.lgm_route.specs.inner.Fronts.{AreFronts, IsUndominated, IsAdded, AreDistinct}
-use Rattle.lgm_route.proofs.Steps.{offered_there, offered_new, spelled_labels}
-use Rattle.lgm_route.proofs.FrontLaws.{fronts_same, distinct_more}
+use Rattle.lgm_route.proofs.Steps.{offered_there, offered_new}
+use Rattle.lgm_route.proofs.Passed.{spelled_labels}
+use Rattle.lgm_route.proofs.NewFrontLaws.{fronts_same, distinct_more}
 use Rattle.lgm_route.proofs.pareto_fronts.offer.Goals as goal
 
 pub find_dominator-found-requires-clause-spelled : goal.find_dominator-found-requires-clause-spelled

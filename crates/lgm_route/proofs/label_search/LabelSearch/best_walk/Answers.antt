@@ -10,7 +10,7 @@ pub returns-in_ok-walk-in-Some-clause-usable : goal.returns-in_ok-walk-in-Some-c
 returns-in_ok-walk-in-Some-clause-usable g c =
     let s : SearchState =
     state_of (g.V.RoutingGraph.graph c.self.inside.view.now) (asked (g.P.Penalties.terms c.self.inside.request.penalties) c.self.inside.request) c.self.inside.low c.self.inside.upper_bound c.self.inside.budget
-    c.self.inside.labels.items c.self.inside.best c.self.inside.fronts c.self.inside.done.items in
+    c.self.inside.labels.items c.self.inside.best c.self.inside.fronts c.self.inside.done.items c.self.inside.spent c.self.inside.dived in
     let walk = c.in_ok-walk-in-Some.walk.items in
     let spelled =
     subst (λ ls. Spells s.ground.graph ls c.in-Some.best walk × (length walk ≡ c.in-Some.best.hops))
@@ -22,7 +22,7 @@ pub returns-in_ok-walk-in-Some-clause-best : goal.returns-in_ok-walk-in-Some-cla
 returns-in_ok-walk-in-Some-clause-best g c = λ finished.
     let s : SearchState =
     state_of (g.V.RoutingGraph.graph c.self.inside.view.now) (asked (g.P.Penalties.terms c.self.inside.request.penalties) c.self.inside.request) c.self.inside.low c.self.inside.upper_bound c.self.inside.budget
-    c.self.inside.labels.items c.self.inside.best c.self.inside.fronts c.self.inside.done.items in
+    c.self.inside.labels.items c.self.inside.best c.self.inside.fronts c.self.inside.done.items c.self.inside.spent c.self.inside.dived in
     let walk = c.in_ok-walk-in-Some.walk.items in
     let spelled =
     subst (λ ls. Spells s.ground.graph ls c.in-Some.best walk × (length walk ≡ c.in-Some.best.hops))

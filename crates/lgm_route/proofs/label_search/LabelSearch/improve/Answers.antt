@@ -10,7 +10,7 @@ use Rattle.lgm_route.proofs.label_search.LabelSearch.improve.Goals.{After-self-1
 abbrev now : (g : _) → After-self-1 g → SearchState
 now g c =
     state_of (g.V.RoutingGraph.graph c.self.inside.view.now) (asked (g.P.Penalties.terms c.self.inside.request.penalties) c.self.inside.request) c.self.inside.low c.self.inside.upper_bound c.self.inside.budget
-    c.self.inside.labels.items c.self.inside.best c.self.inside.fronts c.self.inside.done.items
+    c.self.inside.labels.items c.self.inside.best c.self.inside.fronts c.self.inside.done.items c.self.inside.spent c.self.inside.dived
 
 better : (g : _) (c : After-self-1 g) → IsBetter (now g c).ground.graph (now g c).ground.request (now g c).labels (now g c).ground.upper_bound (now g c).best c.args.new (Some c.args.new)
 better g c =

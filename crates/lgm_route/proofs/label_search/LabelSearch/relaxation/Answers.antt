@@ -1,7 +1,7 @@
 use Rattle.std.proofs.Common.{◌+◌, ◌≤◌, ◌∙◌, refl, sym, ap, arith}
 use Rattle.lgm_route.specs.inner.Numbered.{Ask, penalties, penalty_of, most_delay}
 use Rattle.lgm_route.specs.declared.label.Label.{Label}
-use Rattle.lgm_route.proofs.Steps.{led}
+use Rattle.lgm_route.proofs.Passed.{led}
 use Rattle.lgm_route.proofs.label_search.LabelSearch.relaxation.Goals as goal
 
 -- the penalty so far is that of the label's rest

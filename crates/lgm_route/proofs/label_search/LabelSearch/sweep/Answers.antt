@@ -11,6 +11,7 @@ returns-then-len-i-clause-finished g c = (
 pub loop-i-preserved : goal.loop-i-preserved
 loop-i-preserved g c = record {
   extends = extends-trans c.args.self.now c.loop-i.self c.settle.new.self c.loop-i.invariant.extends c.in_ok-settle.ensures.extends;
+  pays = λ paid. c.in_ok-settle.ensures.pays (c.loop-i.invariant.pays paid);
   marked =
       marked_more c.loop-i.self c.settle.new.self c.loop-i.i c.in_ok-settle.ensures.extends
       c.loop-i.invariant.marked c.in_ok-settle.ensures.here;

@@ -1,7 +1,7 @@
 use Rattle.std.proofs.Common.{◌≡◌, ◌<◌, ◌∙◌, ◌∷◌, ◌++◌, [], length, set, ap, sym, subst, arith}
 use Rattle.std.proofs.lemmas.List.{get_or_default, with_items_is}
 use Rattle.lgm_route.specs.inner.Fronts.{Fronts, first_in, AreFronts, IsLinked}
-use Rattle.lgm_route.proofs.FrontLaws.{fronts_added}
+use Rattle.lgm_route.proofs.NewFrontLaws.{fronts_added}
 use Rattle.lgm_route.proofs.pareto_fronts.ParetoFronts.add.Goals as goal
 
 pub returns : goal.returns
@@ -22,5 +22,5 @@ returns g c = λ few request some are.
     let long : length after ≡ length fronts.following = c.link.auto.following ∙ ap length value in
     subst (λ f. AreFronts graph request (labels ++ new ∷ []) (record { first = set fronts.first new.node (length labels); following = f }))
     (sym (with_items_is c.self.inside.following after (long ∙ sym c.self.inside.following.ok.0)))
-    (fronts_added graph labels new fronts after known (omega (arith, room, long)) linked request some
+    (fronts_added graph labels new fronts after known (omega (arith, room, long)) few linked request some
     (subst (λ f. AreFronts graph request labels f) (sym c.self.view_is) are))

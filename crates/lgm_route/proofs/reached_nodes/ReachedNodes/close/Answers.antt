@@ -1,7 +1,8 @@
 use Rattle.std.proofs.Common.{◌-◌, set, rules, subst}
 use Rattle.lgm_route.specs.inner.Bounding.{IsShut}
 use Rattle.lgm_route.specs.inner.Reaching.{Table, fees_in, closed_in}
-use Rattle.lgm_route.proofs.ReachedLaws.{place_is, place_within, closed_of, closed_placed, closed_shut}
+use Rattle.lgm_graph.proofs.PlaceLaws.{place_within}
+use Rattle.lgm_route.proofs.ReachedPlaces.{place_is, closed_of, closed_placed, closed_shut}
 use Rattle.lgm_route.proofs.reached_nodes.ReachedNodes.close.Goals as goal
 
 pub index-reached-requires : goal.index-reached-requires

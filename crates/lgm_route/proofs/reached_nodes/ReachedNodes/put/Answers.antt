@@ -1,6 +1,7 @@
 use Rattle.std.proofs.Common.{◌≡◌, ◌∙◌, ◌^◌, rules, ◌<◌, ◌+◌, ◌-◌, suc, length, ap, arith}
 use Rattle.lgm_route.specs.inner.Reaching.{Table, found}
-use Rattle.lgm_route.proofs.ReachedLaws.{place_is, place_is_not, place_within, within_in, few_nodes, more_placed, more_here, more_others, again_placed, again_here, again_others}
+use Rattle.lgm_graph.proofs.PlaceLaws.{place_within, few_nodes, more_placed, more_here, more_others}
+use Rattle.lgm_route.proofs.ReachedPlaces.{place_is, place_is_not, within_in, again_placed, again_here, again_others}
 use Rattle.lgm_route.proofs.reached_nodes.ReachedNodes.put.Goals as goal
 
 few : (c : goal.In_ok-push) → c.len-index.result + 1 < 2 ^ 32

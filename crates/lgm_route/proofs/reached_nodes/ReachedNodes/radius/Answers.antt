@@ -1,7 +1,7 @@
 use Rattle.std.proofs.Common.{arith, ap, length, subst, ◌≤◌}
 use Rattle.lgm_route.specs.inner.Bounding.{IsRadius}
 use Rattle.lgm_route.specs.inner.Reaching.{Table, fees_in, closed_in}
-use Rattle.lgm_route.proofs.ReachedLaws.{IsLeastOf, radius_of, least_next}
+use Rattle.lgm_route.proofs.ReachedPlaces.{IsLeastOf, radius_of, least_next}
 use Rattle.lgm_route.proofs.reached_nodes.ReachedNodes.radius.Goals as goal
 
 pub loop-node-init : goal.loop-node-init

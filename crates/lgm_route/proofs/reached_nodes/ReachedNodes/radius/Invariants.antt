@@ -1,4 +1,4 @@
-use Rattle.lgm_route.proofs.ReachedLaws.{IsLeastOf}
+use Rattle.lgm_route.proofs.ReachedPlaces.{IsLeastOf}
 use Rattle.lgm_route.proofs.reached_nodes.ReachedNodes.radius.Given as goal
 
 abbrev pub invariant-loop-node : goal.invariant-loop-node
