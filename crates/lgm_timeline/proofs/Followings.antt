@@ -1,15 +1,15 @@
 -- How moments and marks follow the newest moment while the log goes on.
-use Rattle.std.proofs.Common.{◌≡◌, ◌⊎◌, inl, inr, ℕ, ◌+◌, ◌-◌, ◌^◌, ◌<◌, ◌≤◌, List, [], ◌∷◌, ◌++◌, length, drop, sym, ap, subst, ◌∙◌, arith}
+use Rattle.std.proofs.Common.{◌≡◌, ◌⊎◌, inl, inr, ℕ, ◌+◌, ◌-◌, ◌≤◌, List, [], ◌∷◌, ◌++◌, length, drop, sym, ap, subst, ◌∙◌, arith}
 use Rattle.std.proofs.lemmas.List.{length_push, drop-append-le}
 use Rattle.lgm_store.specs.declared.op.Op.{Op}
 use Rattle.lgm_store.specs.Rows.{Rows}
 use Rattle.lgm_store.specs.History.{fold_from}
 use Rattle.lgm_store.proofs.Histories.{fold_from-push}
 use Rattle.lgm_graph.specs.Network.{NetworkState}
-use Rattle.lgm_timeline.specs.declared.follower.Follower.{Follower}
+use Rattle.lgm_timeline.specs.declared.edition.Edition.{Edition}
 use Rattle.lgm_timeline.specs.History.{Moment, moment, next_position, Log, end, between, rows_at, LeadsFrom, Follows, IsTrimmed}
-use Rattle.lgm_timeline.specs.inner.Follower.{moment_of, IsReached}
-use Rattle.lgm_timeline.specs.inner.Past.{IsMarked}
+use Rattle.lgm_timeline.specs.Edition.{moment_of}
+use Rattle.lgm_timeline.specs.inner.Past.{IsMarked, IsReached}
 use Rattle.lgm_timeline.proofs.Logs.{between_none, between_all, between_push, trim_end, between_trim}
 
 -- a log goes on by these operations: where it leads from, it led from before, to the same rows and then by these
@@ -82,15 +82,15 @@ follows_on old new more network next now goes is follows =
     }
 
 -- the log still leads from a mark's network, unless it has come to the mark
-abbrev pub Lasts : Log → Log → ℕ → Follower → Type 0
+abbrev pub Lasts : Log → Log → ℕ → Edition → Type 0
 Lasts old new position mark = LeadsFrom old mark.at → LeadsFrom new mark.at ⊎ IsReached position mark
 
 -- a mark goes on, with the same rows
-pub record MarkGoesOn (newest : Moment) (old new : Log) (position : ℕ) (mark : Follower) : Type 0 where
+pub record MarkGoesOn (newest : Moment) (old new : Log) (position : ℕ) (mark : Edition) : Type 0 where
   pub is_marked : IsMarked new newest position mark
   pub same : rows_at new (moment_of mark) position ≡ rows_at old (moment_of mark) position
 
-pub mark_on : (old new : Log) (more : List Op) (network next : NetworkState) (position : ℕ) (mark : Follower) → GoesOn old new more
+pub mark_on : (old new : Log) (more : List Op) (network next : NetworkState) (position : ℕ) (mark : Edition) → GoesOn old new more
     → IsNext network next more → Lasts old new position mark → IsMarked old (moment network (end old)) position mark
     → MarkGoesOn (moment next (end new)) old new position mark
 mark_on old new more network next position mark goes is lasts is_marked =

@@ -1,3 +1,4 @@
 pub mod History
+pub mod Edition
 pub mod Timeline
 pub mod inner

@@ -1,3 +1,2 @@
 -- Definitions for contracts inside the crate.
-pub mod Follower
 pub mod Past

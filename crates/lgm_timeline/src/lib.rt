@@ -5,6 +5,8 @@
 //! its view, and never changes. A network that lags catches up by the operations that it lacks. If these are more than the
 //! map has channels, and 1,024 more, it is given up, and copied anew when it is needed.
 //!
+//! The only error is out of memory, where no more is said. It leaves the newest map and the one at the mark as they were.
+//!
 //! # Why there are two maps
 //!
 //! Requests are answered from what was committed, and news are what came since, while the newest map goes on. Maps change in
@@ -19,7 +21,6 @@
 #![tactic(auto)]
 
 mod edition;
-mod follower;
 mod op_log;
 mod past;
 mod timeline;

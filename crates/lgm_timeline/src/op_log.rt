@@ -96,7 +96,7 @@ impl OpLog {
         self.ops.get(place.checked_add(further)?)
     }
 
-    /// Ensures that there is room for one more operation. The only error is out of memory.
+    /// Ensures that there is room for one more operation.
     pub(crate) fn reserve(&mut self) -> Result<(), AllocError>
         ensures same { IsTrimmed self.old self.new }
         ensures base { self.new.base ≡ self.old.base }
@@ -132,7 +132,7 @@ impl OpLog {
         self.ops.clear();
     }
 
-    /// The keys that the operations from a position on touch. The only error is out of memory.
+    /// The keys that the operations from a position on touch.
     pub(crate) fn touched_since(
         &self,
         alloc: Global,

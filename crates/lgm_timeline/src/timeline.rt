@@ -4,6 +4,8 @@ ghost use Rattle.std.specs.Prelude.{◌≡◌, ◌≤◌, IsSome, IsTrue, length
 ghost use Rattle.lgm_store.specs.Admission.{admitted, admitted_close};
 ghost use Rattle.lgm_graph.specs.Network.{most_points};
 ghost use Rattle.lgm_timeline.specs.History.{behind, most_kept, HasView};
+ghost use Rattle.std.specs.Arc.{arc_value};
+ghost use Rattle.lgm_timeline.specs.Edition.{IsReadyAt};
 ghost use Rattle.lgm_timeline.specs.Timeline.{newest, Advances, RefusesFirst, RefusesOrRunsOut};
 
 use crate::edition::Edition;
@@ -15,6 +17,7 @@ use lgm_query::MapDiff;
 use lgm_store::{CheckedMessage, Hint, Op};
 use std::alloc::{AllocError, Global};
 use std::marker::Model;
+use std::sync::Arc;
 
 /// The newest network, and what is kept of its past. Contracts see the network, how many operations it has accepted, the rows
 /// at the mark, whether the network that stays there has come there and the graph of its view, and how many operations are
@@ -77,7 +80,7 @@ impl Timeline {
     {
         let keeps = self.past.make_room(alloc, &mut self.newest)?;
         let op = self.newest.offer_at(alloc, message, hint)?;
-        self.past.note(op, keeps);
+        self.past.log_op(op, keeps);
         Ok(())
     }
 
@@ -95,7 +98,7 @@ impl Timeline {
         Ok(self.absorb(alloc, close)?)
     }
 
-    /// Applies an operation. The only error is out of memory, which changes nothing.
+    /// Applies an operation. Out of memory changes nothing.
     pub fn absorb(&mut self, alloc: Global, op: Op) -> Result<(), AllocError>
         ensures applied { OnOk result (newest self.new ≡ behind (newest self.old) op) }
         ensures stays { OnErr result (newest self.new ≡ newest self.old) }
@@ -104,7 +107,7 @@ impl Timeline {
     {
         let keeps = self.past.make_room(alloc, &mut self.newest)?;
         self.newest.absorb(&op)?;
-        self.past.note(op, keeps);
+        self.past.log_op(op, keeps);
         Ok(())
     }
 
@@ -117,7 +120,7 @@ impl Timeline {
         self.past.renew_mark();
     }
 
-    /// Brings the network of the mark there, by the operations that it lacks, with its view. The only error is out of memory.
+    /// Brings the network of the mark there, by the operations that it lacks, with its view.
     pub fn reach_mark(&mut self) -> Result<(), AllocError>
         ensures newest { newest self.new ≡ newest self.old }
         ensures marked { self.new.marked ≡ self.old.marked }
@@ -125,7 +128,7 @@ impl Timeline {
         ensures view { IsTrue self.old.is_reached → self.new.graph_at_mark ≡ self.old.graph_at_mark }
         ensures few { self.new.kept ≤ self.old.kept }
     {
-        self.past.reach_mark(&self.newest)?;
+        self.past.reach_mark()?;
         self.past.trim();
         Ok(())
     }
@@ -143,8 +146,8 @@ impl Timeline {
         }
     }
 
-    /// Builds the view of the network at the mark, unless it has one that numbers few enough points. From then on that network
-    /// keeps its view, which follows the mark. The only error is out of memory.
+    /// Builds the view of the network at the mark, unless it has one that numbers few enough points. From then on that
+    /// network keeps its view, which follows the mark.
     pub fn make_view_at_mark(&mut self, alloc: Global) -> Result<(), AllocError>
         requires few { length self.old.marked.channels ≤ 2000000000 }
         requires reached { IsTrue self.old.is_reached }
@@ -164,7 +167,7 @@ impl Timeline {
     }
 
     /// The differences from the map at the mark to the newest one. Time is logarithmic in the maps for each operation since
-    /// the mark, or that of the map if the mark was left behind. The only error is out of memory.
+    /// the mark, or that of the map if the mark was left behind.
     pub fn map_diff(&self, alloc: Global) -> Result<MapDiff<'_>, AllocError>
         requires { IsTrue self.now.is_reached }
         ensures { IfOk result (λ map_diff.
@@ -179,19 +182,17 @@ impl Timeline {
     }
 
     /// The newest network for good, with its view, unless it has too many channels: the edition that was published last, if
-    /// nothing was applied since, or the one before, which catches up if it has no other owner, or a copy. The only error is
-    /// out of memory.
-    pub fn publish(&mut self, alloc: Global) -> Result<Edition, AllocError>
+    /// nothing was applied since, or the one before, which catches up if it has no other owner, or a copy.
+    pub fn publish(&mut self, alloc: Global) -> Result<Arc<Edition>, AllocError>
         ensures newest { newest self.new ≡ newest self.old }
         ensures marked { self.new.marked ≡ self.old.marked }
-        ensures edition { IfOk result (λ edition. edition ≡ newest self.old) }
+        ensures edition { IfOk result (λ edition. IsReadyAt (newest self.old) (arc_value edition)) }
         ensures few { self.new.kept ≤ self.old.kept }
     {
         self.past.publish(alloc, &self.newest)
     }
 
-    /// Builds the view of the newest network, unless it has one that numbers few enough points. The only error is out of
-    /// memory.
+    /// Builds the view of the newest network, unless it has one that numbers few enough points.
     pub fn make_view(&mut self, alloc: Global) -> Result<(), AllocError>
         requires { length self.old.network.rows.channels ≤ 2000000000 }
         ensures newest { newest self.new ≡ newest self.old }

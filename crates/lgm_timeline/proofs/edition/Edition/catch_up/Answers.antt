@@ -1,7 +1,7 @@
 use Rattle.std.proofs.Common.{◌<◌, ◌≤◌, ◌∙◌, arith}
 use Rattle.lgm_timeline.specs.History.{end}
 use Rattle.lgm_timeline.proofs.Logs.{rows_step}
-use Rattle.lgm_timeline.proofs.follower.Follower.catch_up.Goals as goal
+use Rattle.lgm_timeline.proofs.edition.Edition.catch_up.Goals as goal
 
 pub loop-self-preserved : goal.loop-self-preserved
 loop-self-preserved c =

@@ -1,7 +1,7 @@
 use Rattle.std.proofs.Common.{[], ◌∷◌}
 use Rattle.lgm_timeline.proofs.Followings.{push_goes, skip_goes}
 use Rattle.lgm_timeline.proofs.Pasts.{past_on, still_own, kept_lasts, reached_lasts}
-use Rattle.lgm_timeline.proofs.past.Past.note.Goals as goal
+use Rattle.lgm_timeline.proofs.past.Past.log_op.Goals as goal
 
 pub returns-then-keeps-clause-past : goal.returns-then-keeps-clause-past
 returns-then-keeps-clause-past c = λ network next past known rows.

@@ -1,7 +1,7 @@
 use Rattle.std.proofs.Common.{◌≡◌, ℕ, ◌-◌, ◌≤◌}
 use Rattle.lgm_timeline.specs.History.{rows_at}
-use Rattle.lgm_timeline.specs.inner.Follower.{moment_of}
-use Rattle.lgm_timeline.proofs.follower.Follower.catch_up.Given as goal
+use Rattle.lgm_timeline.specs.Edition.{moment_of}
+use Rattle.lgm_timeline.proofs.edition.Edition.catch_up.Given as goal
 
 -- the rows at later positions stay what they were
 abbrev pub invariant-loop-self : goal.invariant-loop-self
