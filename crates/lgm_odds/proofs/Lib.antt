@@ -1,2 +1,3 @@
 pub mod LessonLaws
 pub mod FadingLaws
+pub mod CutLaws

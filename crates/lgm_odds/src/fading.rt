@@ -122,8 +122,7 @@ fn add_faded_at(
 
 /// What is left of what was learnt of edges once time went by: of each half for each half-life, since balances move.
 /// What an edge surely carries falls to nothing, the most that it may carry rises to its channel's capacity, and its
-/// penalty falls. What then says little is forgotten, and so are edges of channels that the map hasn't. The only error
-/// is out of memory.
+/// penalty falls. What then says little is forgotten, and so are edges of channels that the map hasn't.
 pub fn fade(
     alloc: Global,
     map: &Map,

@@ -1,6 +1,6 @@
 //! What is learnt of edges.
 
-ghost use Rattle.std.specs.Prelude.{◌≡◌, ℕ, OnOk, IfOk};
+ghost use Rattle.std.specs.Prelude.{◌≡◌, ℕ, OnOk, OnErr, IfOk};
 ghost use Rattle.std.specs.Bool.{OnFalse};
 ghost use Rattle.std.specs.Option.{unwrap_or};
 ghost use Rattle.lgm_wire.specs.declared.point.Point.{Point as Node};
@@ -48,10 +48,10 @@ impl Lesson {
         }
     }
 
-    /// Has estimates learn it of a hop's edge, where the amount is in msat. The only error is out of memory, which
-    /// changes nothing.
+    /// Has estimates learn it of a hop's edge, where the amount is in msat. Out of memory changes nothing.
     pub fn teach(self, estimates: &mut Estimates, hop: &Hop, amount: u64) -> Result<(), AllocError>
-        ensures { OnOk result (AreTaught (taught_by self hop.now amount) estimates.old estimates.new) }
+        ensures taught { OnOk result (AreTaught (taught_by self hop.now amount) estimates.old estimates.new) }
+        ensures stays { OnErr result (estimates.new ≡ estimates.old) }
     {
         let known = estimates.get(hop.scid, &hop.from);
         let taught = self.taught(known, amount);
@@ -96,8 +96,7 @@ fn lowered_by(
 }
 
 /// What is believed of edges beside some hops: each edge has less by what they carry over it. None, if that is what was
-/// learnt, since nothing is known of the edges that they are over; then nothing is copied. The only error is out of
-/// memory.
+/// learnt, since nothing is known of the edges that they are over; then nothing is copied.
 pub fn beside(learnt: &Estimates, busy: &[Hop]) -> Result<Option<Estimates>, AllocError>
     ensures { IfOk result (λ beside. estimate_of (unwrap_or beside learnt.now) ≡ believed learnt.now busy.now) }
 {

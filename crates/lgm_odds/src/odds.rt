@@ -12,7 +12,7 @@ use lgm_store::Map;
 const EVEN: u64 = 1_000_000;
 
 /// The greatest odds of an edge: 100 to 1.
-const MOST_ODDS: u128 = 100_000_000;
+const MAX_ODDS: u128 = 100_000_000;
 
 /// In millionths the odds of a failure against none, of an edge of which this is believed, and that forwards no more
 /// than this.
@@ -22,10 +22,9 @@ fn failure_odds(estimate: Estimate, most: u64, amount: u64) -> u64
 {
     let over = amount.saturating_sub(estimate.least);
     let room = u128::from(most.min(estimate.most).saturating_sub(amount)) + 1;
-    (u128::from(EVEN) * u128::from(over) / room).min(MOST_ODDS) as u64
+    (u128::from(EVEN) * u128::from(over) / room).min(MAX_ODDS) as u64
 }
 
-/// Those of a hop.
 fn hop_odds(
     map: &Map,
     extra: &[ExtraEdge],
@@ -41,7 +40,6 @@ fn hop_odds(
     failure_odds(estimate, most, hop.amount)
 }
 
-/// The sum of those of some hops.
 fn sum_of_odds(
     map: &Map,
     extra: &[ExtraEdge],

@@ -2,7 +2,7 @@
 
 ghost use Rattle.std.specs.Prelude.{◌≡◌, ◌+◌, ◌-◌, ◌^◌, min, sum_by, IfOk};
 ghost use Rattle.lgm_graph.specs.Estimates.{estimate_of};
-ghost use Rattle.lgm_odds.specs.Room.{other_end, room_of, room_by, extra_into, room_into};
+ghost use Rattle.lgm_odds.specs.Room.{other_end, room_from, room_of, room_by, extra_into, room_into};
 
 use crate::edge_most::most_of;
 use lgm_check::ChannelRow;
@@ -12,7 +12,7 @@ use lgm_store::Map;
 use std::alloc::{AllocError, Global};
 
 /// The other node of a channel.
-fn other_end(channel: &ChannelRow<'_>, node: &Point) -> Point
+pub(crate) fn other_end(channel: &ChannelRow<'_>, node: &Point) -> Point
     ensures { result ≡ other_end channel.now node.now }
 {
     if channel.message.node_id_1 == *node {
@@ -22,15 +22,26 @@ fn other_end(channel: &ChannelRow<'_>, node: &Point) -> Point
     }
 }
 
+/// What a channel can carry from a node, in msat.
+pub(crate) fn room_from(
+    limits: &[Limit],
+    estimates: &Estimates,
+    from: &Point,
+    channel: &ChannelRow<'_>,
+) -> u64
+    ensures { result ≡ room_from limits.now (estimate_of estimates.now) from.now channel.now }
+{
+    let scid = channel.message.short_channel_id;
+    let capacity = channel.sat.saturating_mul(1_000);
+    let most = capacity.min(estimates.get(scid, from).most);
+    most_of(limits, scid, from, most)
+}
+
 /// What a channel can carry to a node, in msat.
 fn room_of(limits: &[Limit], estimates: &Estimates, node: &Point, channel: &ChannelRow<'_>) -> u64
     ensures { result ≡ room_of limits.now (estimate_of estimates.now) node.now channel.now }
 {
-    let scid = channel.message.short_channel_id;
-    let from = other_end(channel, node);
-    let capacity = channel.sat.saturating_mul(1_000);
-    let most = capacity.min(estimates.get(scid, &from).most);
-    most_of(limits, scid, &from, most)
+    room_from(limits, estimates, &other_end(channel, node), channel)
 }
 
 /// What the channel with an id can carry to a node, in msat.
@@ -79,7 +90,7 @@ fn all_room_by(
 }
 
 /// What the edges into a node can carry together, in msat, and 2^64 - 1 at most: of those beside the map their maxima,
-/// and of the map's channels their capacities, what is believed of them, or limits. The only error is out of memory.
+/// and of the map's channels their capacities, what is believed of them, or limits.
 pub fn room_into(
     alloc: Global,
     map: &Map,

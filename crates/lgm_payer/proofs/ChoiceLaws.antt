@@ -7,7 +7,7 @@ use Rattle.lgm_payer.specs.Payments.{PaymentState, left}
 use Rattle.lgm_payer.specs.Reasons.{is_mendable}
 use Rattle.lgm_payer.specs.Searches.{Prospect, IsFit, IsTried, unlikely, without, IsReason, IsOffered, IsLast}
 use Rattle.lgm_payer.specs.Searches.{piece, next_pieces, is_likely, brings_more, better}
-use Rattle.lgm_payer.specs.Looking.{best_or}
+use Rattle.lgm_payer.specs.Looking.{best_or, IsUnfound}
 
 module _ (prospect : Prospect) (payment : PaymentState) where
   -- the better one fits if both do
@@ -61,12 +61,13 @@ module _ (prospect : Prospect) (payment : PaymentState) where
   pub none_offered : (pieces amount : ℕ) (best : Option Offer) (reason : Unfound)
       → IsTried prospect payment (Some pieces) best → IsReason prospect payment amount reason
       → amount ≡ piece payment pieces → None ≡ next_pieces payment pieces
-      → IfErr (best_or best reason) (IsLast prospect payment)
+      → IfErr (best_or best reason) (IsUnfound prospect payment)
   none_offered pieces amount (Some offer) reason tried why piece_is goes = tt
-  none_offered pieces amount None reason tried why piece_is goes = record {
-    pieces = pieces;
-    best = None;
-    tried = tried;
-    why = subst (λ n. IsReason prospect payment n reason) piece_is why;
-    last = λ mended. (refl, sym goes);
-  }
+  none_offered pieces amount None reason tried why piece_is goes =
+      inr (inr (record {
+        pieces = pieces;
+        best = None;
+        tried = tried;
+        why = subst (λ n. IsReason prospect payment n reason) piece_is why;
+        last = λ mended. (refl, sym goes);
+      }))

@@ -33,7 +33,7 @@ unfolding taught
 run_taught _ _ _ (still payer) = λ scid from. refl
 run_taught _ _ _ (begun old payer new reports number invoice hints metadata records bounds run begins) =
     unmoved reports old.learnt payer.learnt new.learnt (run_taught old payer reports run) (ap (λ (p : PayerState). p.learnt) begins.begins)
-run_taught _ _ _ (sent old payer new reports seen payment part odds is_best payloads run sends) =
+run_taught _ _ _ (sent old payer new reports seen payment sending run sends) =
     unmoved reports old.learnt payer.learnt new.learnt (run_taught old payer reports run) (ap (λ (p : PayerState). p.learnt) sends.sends)
 run_taught _ _ _ (failed old payer new reports payment part ending run ends) =
     moved reports _ old.learnt payer.learnt new.learnt (run_taught old payer reports run) ends.learnt

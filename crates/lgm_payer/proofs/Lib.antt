@@ -1,7 +1,9 @@
 pub mod RouteLaws
 pub mod ProspectLaws
+pub mod NamedLaws
 pub mod RoomLaws
 pub mod PayerLaws
 pub mod ChoiceLaws
 pub mod HistoryLaws
 pub mod PieceLaws
+pub mod RestoringLaws

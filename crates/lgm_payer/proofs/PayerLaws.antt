@@ -1,5 +1,5 @@
 -- What a call about one payment makes of its payer.
-use Rattle.std.proofs.Common.{◌≡◌, ◌∙◌, ℕ, ◌+◌, Bool, List, Option, Some, Result, Ok, Err, refl, sym, ap, subst, inl, inr}
+use Rattle.std.proofs.Common.{◌≡◌, ◌∙◌, ℕ, ◌+◌, List, Option, Some, Result, Ok, Err, refl, sym, ap, subst, inl, inr}
 use Rattle.std.specs.Prelude.{slice_get, slice_set, IfErr, IfSome}
 use Rattle.lgm_wire.specs.declared.point.Point.{Point}
 use Rattle.lgm_wire.specs.reading.Reading.{Gives}
@@ -32,15 +32,16 @@ use Rattle.lgm_payer.specs.Looking.{IsReady}
 use Rattle.lgm_payer.proofs.RoomLaws.{found_room}
 
 -- a part of a payment was sent over what was offered
-pub sent_in : (seen : Seen) (old new : PayerState) (payment place part odds : ℕ) (is_best : Bool) (payloads : List (List ℕ))
-    (before after : PaymentState) (offer : Offer) → IsPayment old.payments payment place before
+pub sent_in : (seen : Seen) (old new : PayerState) (payment place : ℕ) (sending : Sending) (before after : PaymentState)
+    (offer : Offer) → IsPayment old.payments payment place before
     → IsReady seen old before → IsOffered (prospect_in seen old before) before offer
-    → built_for before.arrival offer.found.route ≡ Ok payloads → part ≡ old.sent → odds ≡ offer.odds
-    → is_best ≡ offer.found.is_best
-    → after ≡ with_sent (part_of part offer.found.route offer.amount seen.height) before
+    → built_for before.arrival offer.found.route ≡ Ok sending.payloads → sending.odds ≡ offer.odds
+    → sending.is_best ≡ offer.found.is_best
+    → sending.part ≡ part_of old.sent offer.found.route offer.amount seen.height
+    → after ≡ with_sent sending.part before
     → new ≡ record old { payments = slice_set old.payments place after; sent = old.sent + 1 }
-    → IsSentIn seen old new payment part odds is_best payloads
-sent_in seen old new payment place part odds is_best payloads before after offer is ready offered built numbered odd best sent news =
+    → IsSentIn seen old new payment sending
+sent_in seen old new payment place sending before after offer is ready offered built odd best part sent news =
     record {
       place = place;
       before = before;
@@ -59,11 +60,11 @@ sent_in seen old new payment place part odds is_best payloads before after offer
           (route_odds seen.rows (extra_of before seen.own since busy) (limits_of before seen.rows busy) (believed old.learnt busy))
           seen.height (room_out before.payer (extra_of before seen.own since busy))
           (room_into seen.rows (extra_of before seen.own since busy) (limits_of before seen.rows busy) (believed old.learnt busy)
-          before.invoice.payee) offer.amount offer.found offered.fit.share.some offered.fit.route;
+          before.invoice.payee) offer.amount (prospect_in seen old before).capacities offer.found offered.fit.share.some offered.fit.route;
       payloads_are = built;
-      number = numbered;
       odds_are = odd;
       best_is = best;
+      part_is = part;
       sends = news ∙ ap (λ (p : PaymentState). let payer : PayerState =
           record old { payments = slice_set old.payments place p; sent = old.sent + 1 } in payer) sent;
     }

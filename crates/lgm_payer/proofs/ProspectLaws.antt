@@ -31,14 +31,15 @@ use Rattle.lgm_payer.specs.Looking.{IsUnfound}
 
 -- ---- as it is made
 
-abbrev pub prospect : Preferences → (ℕ → Point → Estimate) → Option (List ℕ) → Rows → List ExtraEdge → List Limit → OverlayParts → ℕ → ℕ → ℕ → Prospect
-prospect preferences beliefs known rows extra limits overlay height room payee_room = record {
+abbrev pub prospect : Preferences → (ℕ → Point → Estimate) → Option (List ℕ) → Rows → List ExtraEdge → List Limit → OverlayParts → ℕ → ℕ → ℕ → Point → Prospect
+prospect preferences beliefs known rows extra limits overlay height room payee_room payer = record {
   penalty = penalty_with preferences beliefs;
   odds = route_odds rows extra limits beliefs;
   edges = overlaid_edges known rows overlay;
   height = height;
   room = room;
   payee_room = payee_room;
+  capacities = record { rows = rows; extra = extra; limits = limits; believed = beliefs; payer = payer };
 }
 
 -- an overlay that is made of what a payment knows
@@ -67,24 +68,25 @@ extra_count payment rows own since busy overlay over =
 -- a prospect that is made of it
 pub prospect_is : (preferences chosen : Preferences) (beliefs : ℕ → Point → Estimate) (known : Option (List ℕ)) (rows : Rows)
     (payment : PaymentState) (own : List ExtraEdge) (since busy : List Hop) (height : ℕ) (extra : List ExtraEdge)
-    (limits : List Limit) (overlay : OverlayParts) (room payee_room : ℕ) → preferences ≡ chosen
+    (limits : List Limit) (overlay : OverlayParts) (room payee_room : ℕ) (payer : Point) → preferences ≡ chosen
     → extra ≡ extra_of payment own since busy → limits ≡ limits_of payment rows busy
     → overlay ≡ overlay_of payment rows own since busy → room ≡ room_out payment.payer extra
-    → payee_room ≡ room_into rows extra limits beliefs payment.invoice.payee
-    → prospect preferences beliefs known rows extra limits overlay height room payee_room
+    → payee_room ≡ room_into rows extra limits beliefs payment.invoice.payee → payer ≡ payment.payer
+    → prospect preferences beliefs known rows extra limits overlay height room payee_room payer
     ≡ prospect_of chosen beliefs known rows payment own since busy height
-prospect_is preferences chosen beliefs known rows payment own since busy height extra limits overlay room payee_room prefers edges most over sends gets =
-    ap (λ (p : Preferences). prospect p beliefs known rows extra limits overlay height room payee_room) prefers
-    ∙ ap (λ n. prospect chosen beliefs known rows extra limits overlay height n payee_room) sends
-    ∙ ap (λ n. prospect chosen beliefs known rows extra limits overlay height (room_out payment.payer extra) n) gets
+prospect_is preferences chosen beliefs known rows payment own since busy height extra limits overlay room payee_room payer prefers edges most over sends gets pays =
+    ap (λ (p : Point). prospect preferences beliefs known rows extra limits overlay height room payee_room p) pays
+    ∙ ap (λ (p : Preferences). prospect p beliefs known rows extra limits overlay height room payee_room payment.payer) prefers
+    ∙ ap (λ n. prospect chosen beliefs known rows extra limits overlay height n payee_room payment.payer) sends
+    ∙ ap (λ n. prospect chosen beliefs known rows extra limits overlay height (room_out payment.payer extra) n payment.payer) gets
     ∙ ap (λ (list : List ExtraEdge). prospect chosen beliefs known rows list limits overlay height (room_out payment.payer list)
-    (room_into rows list limits beliefs payment.invoice.payee)) edges
+    (room_into rows list limits beliefs payment.invoice.payee) payment.payer) edges
     ∙ ap (λ (list : List Limit). prospect chosen beliefs known rows (extra_of payment own since busy) list overlay height
     (room_out payment.payer (extra_of payment own since busy))
-    (room_into rows (extra_of payment own since busy) list beliefs payment.invoice.payee)) most
+    (room_into rows (extra_of payment own since busy) list beliefs payment.invoice.payee) payment.payer) most
     ∙ ap (λ (parts : OverlayParts). prospect chosen beliefs known rows (extra_of payment own since busy) (limits_of payment rows busy)
     parts height (room_out payment.payer (extra_of payment own since busy))
-    (room_into rows (extra_of payment own since busy) (limits_of payment rows busy) beliefs payment.invoice.payee)) over
+    (room_into rows (extra_of payment own since busy) (limits_of payment rows busy) beliefs payment.invoice.payee) payment.payer) over
 
 -- what is offered, or why nothing is, over one that is the same
 pub offered_over : (made prospect : Prospect) (payment : PaymentState) (answer : Result Offer Unfound) → made ≡ prospect

@@ -1,9 +1,9 @@
 -- Nothing is promised twice: a hop of a route takes no more than what is left beside what is under way.
 use Rattle.std.proofs.Common.{◌≡◌, ◌⊎◌, inl, inr, ℕ, ◌-◌, ◌*◌, ◌^◌, ◌≤◌, Bool, true, false, ◌&&◌, List, [], ◌∷◌, ◌++◌, Option, Some, None}
-use Rattle.std.proofs.Common.{not, zero, suc, true≢false, ◌||◌, refl, sym, ap, subst, ◌∙◌, arith, Ok}
-use Rattle.std.specs.Prelude.{◌==◌, fold, map, filter, min, if◌then◌else◌}
+use Rattle.std.proofs.Common.{not, zero, suc, true≢false, refl, sym, ap, subst, ◌∙◌, arith, Ok}
+use Rattle.std.specs.Prelude.{◌==◌, map, filter, min, if◌then◌else◌}
 use Rattle.std.specs.List.{filter_map, cons_option, list_any}
-use Rattle.std.specs.Option.{option_and_then}
+use Rattle.std.specs.Option.{option_and_then, option_map, option_or}
 use Rattle.std.proofs.lemmas.Bool.{and_parts, eqb-true, eq-eqb, leb-true}
 use Rattle.std.proofs.lemmas.List.Sums.{sum_by-cons}
 use Rattle.lgm_wire.specs.declared.point.Point.{Point}
@@ -15,17 +15,20 @@ use Rattle.lgm_graph.specs.declared.overlay.ExtraEdge.{ExtraEdge}
 use Rattle.lgm_graph.specs.declared.overlay.Limit.{Limit}
 use Rattle.lgm_graph.specs.declared.route.Hop.{Hop}
 use Rattle.lgm_graph.specs.Edges.{PointEdge, edge_on, edge_in, edge_of, can_carry, carrying, takes_payments}
-use Rattle.lgm_graph.specs.Overlay.{extra_edge, has_key, is_named, with_first, firsts, is_used, at_most, most_of, limited, laid_over, overlaid_edges}
-use Rattle.lgm_graph.proofs.Members.{Among, Among-Contains, Contains-Among, Among-either, Among-left, Among-right, Among-passed, Among-mapped, Among-map, Among-flat}
+use Rattle.lgm_graph.specs.Overlay.{extra_edge, has_key, is_named, firsts, is_used, at_most, most_of, limited, laid_over, overlaid_edges}
+use Rattle.lgm_graph.proofs.Members.{Among, Among-Contains, Among-either, Among-left, Among-passed, Among-mapped, Among-flat}
 use Rattle.lgm_route.specs.declared.request.Request.{Request}
 use Rattle.lgm_route.specs.declared.limits.RouteLimits.{RouteLimits}
 use Rattle.lgm_route.specs.declared.found.Found.{Found}
 use Rattle.lgm_route.specs.Routes.{owed, hops_of, IsRest}
 use Rattle.lgm_route.specs.Preferred.{IsSomeRoute, penalty_at, no_preferences}
+use Rattle.lgm_odds.specs.Cut.{Capacities}
 use Rattle.lgm_payer.specs.Payments.{PaymentState}
 use Rattle.lgm_odds.specs.Carried.{over, carried_over}
-use Rattle.lgm_payer.specs.Overlays.{spared, extra_of, capacity_limit, capacity_limits, listed, limits_left, all_silenced, overlay_of, IsUnnamed, HasRoomIn, HasRoom, HaveRoom}
+use Rattle.lgm_odds.specs.RouteOdds.{named}
+use Rattle.lgm_payer.specs.Overlays.{spared, extra_of, capacity_limit, capacity_limits, listed, limits_left, all_silenced, overlay_of, HasRoomIn, HasRoom, HaveRoom}
 use Rattle.lgm_payer.specs.Searches.{route_limits, request_of, IsAnswerWithin, IsFoundFor}
+use Rattle.lgm_payer.proofs.NamedLaws.{first_found, laid_found, none_found}
 use Rattle.lgm_payer.proofs.RouteLaws.{owed_more}
 
 -- ---- limits
@@ -63,32 +66,6 @@ most_limit (first ∷ limits) id from most limit (inl same) is =
 most_limit (first ∷ limits) id from most limit (inr more) is = most_limit limits id from (at_most id from most first) limit more is
 
 -- ---- edges
-
--- the first edges of each key are among the edges
-firsts_from : (before edges : List PointEdge) (edge : PointEdge) → Among (fold with_first before edges) edge
-    → Among before edge ⊎ Among edges edge
-firsts_from before [] edge there = inl there
-firsts_from before (next ∷ edges) edge there = by (firsts_from (with_first before next) edges edge there)
-  where
-    added : (b : Bool) → Among (if b then before else before ++ next ∷ []) edge → Among before edge ⊎ Among (next ∷ edges) edge
-    added true there = inl there
-    added false there = which (Among-either before (next ∷ []) edge there)
-      where
-        which : Among before edge ⊎ Among (next ∷ []) edge → Among before edge ⊎ Among (next ∷ edges) edge
-        which (inl first) = inl first
-        which (inr (inl same)) = inr (inl same)
-        which (inr (inr none)) = absurd none
-
-    by : Among (with_first before next) edge ⊎ Among edges edge → Among before edge ⊎ Among (next ∷ edges) edge
-    by (inl first) = added (is_named before next) first
-    by (inr second) = inr (inr second)
-
-firsts_among : (edges : List PointEdge) (edge : PointEdge) → Among (firsts edges) edge → Among edges edge
-firsts_among edges edge there = by (firsts_from [] edges edge there)
-  where
-    by : Among [] edge ⊎ Among edges edge → Among edges edge
-    by (inl none) = absurd none
-    by (inr there) = there
 
 -- what a filter_map gives comes from an element
 module _ {X Y : Type 0} (f : X → Option Y) where
@@ -180,77 +157,76 @@ module _ (rows : Rows) (payer : Point) (busy : List Hop) where
 -- ---- room
 
 -- an edge that is laid with what is left of it beside hops has room for what it carries at most
-spared_room : (extra : List ExtraEdge) (busy : List Hop) (laid : ExtraEdge) (amount : ℕ) → Among (map (spared busy) extra) laid
-    → 1 ≤ amount → amount ≤ laid.max → HasRoomIn extra busy laid.scid laid.from amount
-spared_room extra busy laid amount there some fits =
-    let own = Among-mapped (spared busy) extra laid there in
-    let scid : own.0.scid ≡ laid.scid = ap (λ (e : ExtraEdge). e.scid) own.2 in
-    let from : own.0.from ≡ laid.from = ap (λ (e : ExtraEdge). e.from) own.2 in
-    let max : own.0.max - carried_over busy own.0.scid own.0.from ≡ laid.max = ap (λ (e : ExtraEdge). e.max) own.2 in
-    let alike : carried_over busy own.0.scid own.0.from ≡ carried_over busy laid.scid laid.from =
-    ap (λ n. carried_over busy n own.0.from) scid ∙ ap (λ (p : Point). carried_over busy laid.scid p) from in
-    (own.0, Contains-Among extra own.0 own.1, scid, from, omega arith)
+spared_room : (extra : List ExtraEdge) (busy : List Hop) (own : ExtraEdge) (laid : PointEdge) (amount : ℕ)
+    → named extra laid.scid laid.from ≡ Some own → extra_edge (spared busy own) ≡ laid → 1 ≤ amount → amount ≤ laid.max
+    → HasRoomIn extra busy laid.scid laid.from amount
+spared_room extra busy own laid amount there is some fits =
+    let scid : own.scid ≡ laid.scid = ap (λ (e : PointEdge). e.scid) is in
+    let from : own.from ≡ laid.from = ap (λ (e : PointEdge). e.from) is in
+    let max : own.max - carried_over busy own.scid own.from ≡ laid.max = ap (λ (e : PointEdge). e.max) is in
+    let alike : carried_over busy own.scid own.from ≡ carried_over busy laid.scid laid.from =
+    ap (λ n. carried_over busy n own.from) scid ∙ ap (λ (p : Point). carried_over busy laid.scid p) from in
+    (own, there, omega arith)
 
-any_among : {X : Type 0} (p : X → Bool) (xs : List X) (x : X) → Among xs x → p x ≡ true → list_any p xs ≡ true
-any_among p [] x none is = absurd none
-any_among p (y ∷ ys) x (inl same) is = let own : p y ≡ true = ap p same ∙ is in rw own refl
-any_among p (y ∷ ys) x (inr more) is = by (any_among p ys x more is) (p y)
-  where
-    by : list_any p ys ≡ true → (b : Bool) → (b || list_any p ys) ≡ true
-    by rest true = refl
-    by rest false = rest
+-- what is some is one value, and no value is none
+some_same : {X : Type 0} (x y : X) → Some x ≡ Some y → x ≡ y
+some_same x y is = cc
+
+none_some : {X : Type 0} (x : X) → None ≡ Some x → ⊥
+none_some x is = cc
+
+not_true : (b : Bool) → not b ≡ true → b ≡ false
+not_true true is = absurd (true≢false (sym is))
+not_true false is = refl
 
 -- of a payment
 module _ (rows : Rows) (payment : PaymentState) (own : List ExtraEdge) (since busy : List Hop) where
   -- over an edge beside the map, for what it carries at most
   extra_room : (limits : List Limit) (edge : PointEdge) (amount : ℕ)
-      → Among (map extra_edge (extra_of payment own since busy)) edge → 1 ≤ amount
+      → Among (firsts (map extra_edge (extra_of payment own since busy))) edge → 1 ≤ amount
       → amount ≤ most_of limits edge.scid edge.from edge.max → HasRoom rows own payment.hints since busy edge.scid edge.from amount
   extra_room limits edge amount there some fits =
-      let laid = Among-mapped extra_edge (extra_of payment own since busy) edge there in
       let within = most_within limits edge.scid edge.from edge.max in
-      let scid : laid.0.scid ≡ edge.scid = ap (λ (e : PointEdge). e.scid) laid.2 in
-      let from : laid.0.from ≡ edge.from = ap (λ (e : PointEdge). e.from) laid.2 in
-      let max : laid.0.max ≡ edge.max = ap (λ (e : PointEdge). e.max) laid.2 in
-      let room = by laid.0 (omega arith) (Among-either (map (spared since) own) (map (spared busy) payment.hints) laid.0 laid.1) in
-      subst (λ (p : Point). HasRoom rows own payment.hints since busy edge.scid p amount) from
-      (subst (λ n. HasRoom rows own payment.hints since busy n laid.0.from amount) scid room)
+      by (named own edge.scid edge.from) (named payment.hints edge.scid edge.from) refl refl (omega arith)
+      (sym (laid_found payment own since busy edge.scid edge.from)
+      ∙ first_found (map extra_edge (extra_of payment own since busy)) edge there)
     where
-      by : (laid : ExtraEdge) → amount ≤ laid.max
-          → Among (map (spared since) own) laid ⊎ Among (map (spared busy) payment.hints) laid
-          → HasRoom rows own payment.hints since busy laid.scid laid.from amount
-      by laid fits (inl first) = inl (spared_room own since laid amount first some fits)
-      by laid fits (inr second) = inr (inl (spared_room payment.hints busy laid amount second some fits))
+      by : (first second : Option ExtraEdge) → named own edge.scid edge.from ≡ first → named payment.hints edge.scid edge.from ≡ second
+          → amount ≤ edge.max
+          → option_map extra_edge (option_or (option_map (spared since) (named own edge.scid edge.from))
+          (option_map (spared busy) (named payment.hints edge.scid edge.from))) ≡ Some edge
+          → HasRoom rows own payment.hints since busy edge.scid edge.from amount
+      by (Some channel) second is other fits found =
+          inl (spared_room own since channel edge amount is (some_same (extra_edge (spared since channel)) edge (rw is at found)) some fits)
+      by None (Some hint) is other fits found =
+          inr (inl (
+            is,
+            spared_room payment.hints busy hint edge amount other
+                (some_same (extra_edge (spared busy hint)) edge (rw (is, other) at found)) some fits,
+          ))
+      by None None is other fits found = absurd (none_some edge (rw (is, other) at found))
 
   -- an edge that none of those beside the map replaces has no name of theirs
   unnamed : (base : PointEdge) → not (is_named (map extra_edge (extra_of payment own since busy)) base) ≡ true
-      → IsUnnamed (own ++ payment.hints) base.scid base.from
-  unnamed base is = λ edge there scid from.
-      let named = by edge scid from (Among-either own payment.hints edge (Among-Contains (own ++ payment.hints) edge there)) in
-      true≢false (sym (rw named at is))
+      → (named own base.scid base.from ≡ None) × (named payment.hints base.scid base.from ≡ None)
+  unnamed base is =
+      by (named own base.scid base.from) (named payment.hints base.scid base.from) refl refl
+      (sym (laid_found payment own since busy base.scid base.from)
+      ∙ none_found (has_key base.scid base.from) (map extra_edge (extra_of payment own since busy))
+      (not_true (is_named (map extra_edge (extra_of payment own since busy)) base) is))
     where
-      key : (laid : ExtraEdge) → laid.scid ≡ base.scid → laid.from ≡ base.from → Among (extra_of payment own since busy) laid
-          → is_named (map extra_edge (extra_of payment own since busy)) base ≡ true
-      key laid scid from there =
-          let same : has_key base.scid base.from (extra_edge laid) ≡ true =
-          rw (scid, from, is_point-self base.from, eq-eqb base.scid base.scid refl) refl in
-          any_among (has_key base.scid base.from) (map extra_edge (extra_of payment own since busy)) (extra_edge laid)
-          (Among-map extra_edge (extra_of payment own since busy) laid there) same
-
-      by : (edge : ExtraEdge) → edge.scid ≡ base.scid → edge.from ≡ base.from → Among own edge ⊎ Among payment.hints edge
-          → is_named (map extra_edge (extra_of payment own since busy)) base ≡ true
-      by edge scid from (inl first) =
-          key (spared since edge) scid from
-          (Among-left (map (spared since) own) (map (spared busy) payment.hints) (spared since edge)
-          (Among-map (spared since) own edge first))
-      by edge scid from (inr second) =
-          key (spared busy edge) scid from
-          (Among-right (map (spared since) own) (map (spared busy) payment.hints) (spared busy edge)
-          (Among-map (spared busy) payment.hints edge second))
+      by : (first second : Option ExtraEdge) → named own base.scid base.from ≡ first → named payment.hints base.scid base.from ≡ second
+          → option_map extra_edge (option_or (option_map (spared since) (named own base.scid base.from))
+          (option_map (spared busy) (named payment.hints base.scid base.from))) ≡ None
+          → (named own base.scid base.from ≡ None) × (named payment.hints base.scid base.from ≡ None)
+      by (Some channel) second is other found = absurd (none_some (extra_edge (spared since channel)) (sym (rw is at found)))
+      by None (Some hint) is other found = absurd (none_some (extra_edge (spared busy hint)) (sym (rw (is, other) at found)))
+      by None None is other found = (is, other)
 
   -- over an edge of the map, for its channel's capacity
   public_room : (others : List Limit) (edge : PointEdge) (amount : ℕ) → Among (carrying rows) edge
-      → is_point edge.from payment.payer ≡ false → IsUnnamed (own ++ payment.hints) edge.scid edge.from → 1 ≤ amount
+      → is_point edge.from payment.payer ≡ false
+      → (named own edge.scid edge.from ≡ None) × (named payment.hints edge.scid edge.from ≡ None) → 1 ≤ amount
       → amount ≤ most_of (capacity_limits rows payment.payer busy ++ others) edge.scid edge.from edge.max
       → HasRoom rows own payment.hints since busy edge.scid edge.from amount
   unfolding left_of
@@ -267,7 +243,7 @@ module _ (rows : Rows) (payment : PaymentState) (own : List ExtraEdge) (since bu
       by zero is =
           let all = capacity.fits in
           let less = within in
-          inr (inr (bare, (capacity.channel, capacity.there, omega arith)))
+          inr (inr (bare.0, bare.1, (capacity.channel, capacity.there, omega arith)))
       by (suc more) is =
           let hop = busy_hop busy edge.scid edge.from (omega arith) in
           let found : channel_of rows.channels hop.0.scid ≡ Some capacity.channel = ap (channel_of rows.channels) hop.2 ∙ capacity.there in
@@ -282,7 +258,7 @@ module _ (rows : Rows) (payment : PaymentState) (own : List ExtraEdge) (since bu
           let alike : carried_over busy hop.0.scid hop.0.from ≡ carried_over busy edge.scid edge.from =
           ap (λ n. carried_over busy n hop.0.from) hop.2 ∙ ap (λ (p : Point). carried_over busy edge.scid p) hop.3 in
           let leaves = limit.4 in
-          inr (inr (bare, (capacity.channel, capacity.there, omega arith)))
+          inr (inr (bare.0, bare.1, (capacity.channel, capacity.there, omega arith)))
 
   -- an edge that is used isn't the payer's
   others_alone : (edge : PointEdge) (silent : List Point) → not (list_any (is_point edge.from) (payment.payer ∷ silent)) ≡ true
@@ -313,8 +289,7 @@ module _ (rows : Rows) (payment : PaymentState) (own : List ExtraEdge) (since bu
           ⊎ Among (filter (is_used (overlay_of payment rows own since busy)) (carrying rows)) base
           → HasRoom rows own payment.hints since busy base.scid base.from amount
       by base fits (inl extra) =
-          extra_room (overlay_of payment rows own since busy).limits base amount
-          (firsts_among (overlay_of payment rows own since busy).extra base extra) some fits
+          extra_room (overlay_of payment rows own since busy).limits base amount extra some fits
       by base fits (inr public) =
           let passed = Among-passed (is_used (overlay_of payment rows own since busy)) (carrying rows) base public in
           let used = and_parts _ _ passed.1 in
@@ -343,7 +318,7 @@ module _ (rows : Rows) (payment : PaymentState) (own : List ExtraEdge) (since bu
       subst (λ h. HaveRoom rows own payment.hints since busy h) (sym route.3)
       (walk_room known request request.payer route.0 some route.1.joins)
 
-  within_room : (limits : Option RouteLimits) (known : Option (List ℕ)) (penalty : PointEdge → ℕ → ℕ) (odds : List Hop → ℕ) (height room payee_room : ℕ)
+  within_room : (limits : Option RouteLimits) (known : Option (List ℕ)) (penalty : PointEdge → ℕ → ℕ) (odds : List Hop → ℕ) (height room payee_room : ℕ) (capacities : Capacities)
       (request : Request) (found : Found) → 1 ≤ request.amount
       → IsAnswerWithin limits (record {
         penalty = penalty;
@@ -352,14 +327,15 @@ module _ (rows : Rows) (payment : PaymentState) (own : List ExtraEdge) (since bu
         height = height;
         room = room;
         payee_room = payee_room;
+        capacities = capacities;
       }) request (Ok found)
       → HaveRoom rows own payment.hints since busy found.route
-  within_room None known penalty odds height room payee_room request found some none = cc
-  within_room (Some limits) known penalty odds height room payee_room request found some answer =
+  within_room None known penalty odds height room payee_room capacities request found some none = cc
+  within_room (Some limits) known penalty odds height room payee_room capacities request found some answer =
       some_room limits known request found.route some answer.1
 
   -- what a part is sent over has room
-  pub found_room : (known : Option (List ℕ)) (penalty : PointEdge → ℕ → ℕ) (odds : List Hop → ℕ) (height room payee_room amount : ℕ) (found : Found)
+  pub found_room : (known : Option (List ℕ)) (penalty : PointEdge → ℕ → ℕ) (odds : List Hop → ℕ) (height room payee_room amount : ℕ) (capacities : Capacities) (found : Found)
       → 1 ≤ amount
       → IsFoundFor (record {
         penalty = penalty;
@@ -368,10 +344,11 @@ module _ (rows : Rows) (payment : PaymentState) (own : List ExtraEdge) (since bu
         height = height;
         room = room;
         payee_room = payee_room;
+        capacities = capacities;
       }) payment amount found
       → HaveRoom rows own payment.hints since busy found.route
-  found_room known penalty odds height room payee_room amount found some (inl route) =
-      within_room (route_limits payment) known penalty odds height room payee_room (request_of payment amount height) found some route.answer.within
-  found_room known penalty odds height room payee_room amount found some (inr route) =
-      within_room (route_limits payment) known (penalty_at no_preferences []) odds height room payee_room (request_of payment amount height) found some
+  found_room known penalty odds height room payee_room amount capacities found some (inl route) =
+      within_room (route_limits payment) known penalty odds height room payee_room capacities (request_of payment amount height) found some route.answer.within
+  found_room known penalty odds height room payee_room amount capacities found some (inr route) =
+      within_room (route_limits payment) known (penalty_at no_preferences []) odds height room payee_room capacities (request_of payment amount height) found some
       route.route.answer.within

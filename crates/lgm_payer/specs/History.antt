@@ -1,5 +1,5 @@
 -- What was learnt by all reports.
-use Rattle.std.specs.Prelude.{ℕ, Bool, List, [], ◌∷◌, ◌++◌, Option, fold}
+use Rattle.std.specs.Prelude.{ℕ, List, [], ◌∷◌, ◌++◌, Option, fold}
 use Rattle.lgm_wire.specs.declared.point.Point.{Point}
 use Rattle.lgm_wire.specs.Tlv.{TlvRecord}
 use Rattle.lgm_graph.specs.declared.estimate.Estimate.{Estimate}
@@ -12,6 +12,7 @@ use Rattle.lgm_odds.specs.Lessons.{AreTaught}
 use Rattle.lgm_payer.specs.declared.bounds.Bounds.{Bounds}
 use Rattle.lgm_payer.specs.declared.failure.Ending.{Ending}
 use Rattle.lgm_payer.specs.declared.invoice.Invoice.{Invoice}
+use Rattle.lgm_payer.specs.declared.offer.Sending.{Sending}
 use Rattle.lgm_payer.specs.Payments.{PaymentState}
 use Rattle.lgm_payer.specs.UnderWay.{all_under_way}
 use Rattle.lgm_payer.specs.Learning.{learnt_at, learnt_arrived}
@@ -38,9 +39,8 @@ pub data IsRun : PayerState → List Report → PayerState → Type 0 where
   begun : (old payer new : PayerState) (reports : List Report) (number : ℕ) (invoice : Invoice) (hints : List ExtraEdge)
       (metadata : Option (List ℕ)) (records : List TlvRecord) (bounds : Bounds) → IsRun old reports payer
       → IsBegun payer new number invoice hints metadata records bounds → IsRun old reports new
-  sent : (old payer new : PayerState) (reports : List Report) (seen : Seen) (payment part odds : ℕ) (is_best : Bool)
-      (payloads : List (List ℕ)) → IsRun old reports payer → IsSentIn seen payer new payment part odds is_best payloads
-      → IsRun old reports new
+  sent : (old payer new : PayerState) (reports : List Report) (seen : Seen) (payment : ℕ) (sending : Sending)
+      → IsRun old reports payer → IsSentIn seen payer new payment sending → IsRun old reports new
   failed : (old payer new : PayerState) (reports : List Report) (payment part : ℕ) (ending : Ending) → IsRun old reports payer
       → (ends : IsEndedIn payer new payment part ending)
       → IsRun old (reports ++ failure ends.before (all_under_way payer.payments) ends.at ending ∷ []) new

@@ -1,6 +1,7 @@
 pub mod Failures
 pub mod Parts
 pub mod Payments
+pub mod Restoring
 pub mod UnderWay
 pub mod Overlays
 pub mod Learning

@@ -26,9 +26,20 @@ prospect_at outlook = record {
   height = outlook.height;
   room = outlook.room;
   payee_room = outlook.payee_room;
+  capacities = record {
+    rows = outlook.map.now;
+    extra = outlook.extra.now;
+    limits = outlook.limits.now;
+    believed = estimate_of outlook.estimates.now;
+    payer = outlook.payer;
+  };
 }
 
--- out of memory, or the payer's channels can't send what is left, or why there is no route
+-- out of memory, or a cut that can't carry what is left
+abbrev pub IsCutOff : Prospect → PaymentState → Unfound → Type 0
+IsCutOff prospect payment reason = (reason ≡ unfound.Search (Fault faults.NoMemory)) ⊎ IsShort prospect payment reason
+
+-- out of memory, or a cut that can't carry what is left, or why there is no route
 abbrev pub IsUnfound : Prospect → PaymentState → Unfound → Type 0
 IsUnfound prospect payment reason =
     (reason ≡ unfound.Search (Fault faults.NoMemory)) ⊎ (IsShort prospect payment reason ⊎ IsLast prospect payment reason)

@@ -1,6 +1,6 @@
 -- What a payment knows beside the map: its payer's channels, the invoice's hints, and what failed parts and parts that are
 -- under way leave.
-use Rattle.std.specs.Prelude.{◌≡◌, ◌⊎◌, ℕ, ◌≤◌, Contains, ◌+◌, ◌-◌, ◌*◌, ◌^◌, Bool, not, ◌&&◌, ◌==◌, min, List, [], ◌∷◌, ◌++◌, map}
+use Rattle.std.specs.Prelude.{◌≡◌, ◌⊎◌, ℕ, ◌≤◌, ◌+◌, ◌-◌, ◌*◌, ◌^◌, Bool, not, ◌&&◌, ◌==◌, min, List, [], ◌∷◌, ◌++◌, map}
 use Rattle.std.specs.Prelude.{Option, Some, None, slice_get, if◌then◌else◌}
 use Rattle.std.specs.List.{list_any, flat_map, AllByRecursion}
 use Rattle.std.specs.Option.{option_map, option_and_then, option_or}
@@ -12,6 +12,7 @@ use Rattle.lgm_graph.specs.declared.overlay.Limit.{Limit}
 use Rattle.lgm_graph.specs.declared.route.Hop.{Hop}
 use Rattle.lgm_graph.specs.Overlay.{OverlayParts, extra_edge}
 use Rattle.lgm_odds.specs.Carried.{carried_over}
+use Rattle.lgm_odds.specs.RouteOdds.{named}
 use Rattle.lgm_payer.specs.declared.failure.Ending.{Ending}
 use Rattle.lgm_payer.specs.declared.failure.Ending.TheVariants.{Unreadable, Failed}
 use Rattle.lgm_payer.specs.declared.failure.FailureKind.{FailureKind}
@@ -133,24 +134,24 @@ overlay_of payment rows own since busy = record {
 
 -- ---- nothing is promised twice
 
--- none of these edges has this name
-abbrev pub IsUnnamed : List ExtraEdge → ℕ → Point → Type 0
-IsUnnamed extra scid from = (edge : ExtraEdge) → Contains extra edge → edge.scid ≡ scid → edge.from ≡ from → ⊥
-
--- one of these edges has this name, with a maximum for an amount beside these hops
+-- the first of these edges with this name has a maximum for an amount beside these hops
 abbrev pub HasRoomIn : List ExtraEdge → List Hop → ℕ → Point → ℕ → Type 0
 HasRoomIn extra busy scid from amount =
-    (edge : ExtraEdge) × Contains extra edge × (edge.scid ≡ scid) × (edge.from ≡ from)
-    × (carried_over busy scid from + amount ≤ edge.max)
+    (edge : ExtraEdge) × (named extra scid from ≡ Some edge) × (carried_over busy scid from + amount ≤ edge.max)
+
+-- the channel with this id has the capacity for an amount beside these hops
+abbrev pub HasRoomOf : Rows → List Hop → ℕ → Point → ℕ → Type 0
+HasRoomOf rows busy scid from amount =
+    (channel : ChannelRow) × (channel_of rows.channels scid ≡ Some channel) × (carried_over busy scid from + amount ≤ channel.sat * 1000)
 
 -- there is room over an edge for an amount: it is one of the payer's channels, which can send both it and what was sent since
 -- they were told; or one of the hints, with a maximum for it beside what is under way; or none of these, and its channel has
 -- the capacity for it beside what is under way
 abbrev pub HasRoom : Rows → List ExtraEdge → List ExtraEdge → List Hop → List Hop → ℕ → Point → ℕ → Type 0
 HasRoom rows own hints since busy scid from amount =
-    HasRoomIn own since scid from amount ⊎ (HasRoomIn hints busy scid from amount
-    ⊎ (IsUnnamed (own ++ hints) scid from × ((channel : ChannelRow) × (channel_of rows.channels scid ≡ Some channel)
-    × (carried_over busy scid from + amount ≤ channel.sat * 1000))))
+    HasRoomIn own since scid from amount
+    ⊎ (((named own scid from ≡ None) × HasRoomIn hints busy scid from amount)
+    ⊎ ((named own scid from ≡ None) × (named hints scid from ≡ None) × HasRoomOf rows busy scid from amount))
 
 -- there is for each hop of a route
 abbrev pub HaveRoom : Rows → List ExtraEdge → List ExtraEdge → List Hop → List Hop → List Hop → Type 0

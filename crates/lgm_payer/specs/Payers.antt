@@ -13,6 +13,7 @@ use Rattle.lgm_payload.specs.Building.{built_for}
 use Rattle.lgm_payload.specs.declared.arrival_fault.ArrivalFault.TheVariants as arrivals
 use Rattle.lgm_odds.specs.Lessons.{believed}
 use Rattle.lgm_payer.specs.declared.offer.Offer.{Offer}
+use Rattle.lgm_payer.specs.declared.offer.Sending.{Sending}
 use Rattle.lgm_payer.specs.declared.stage.Stage.TheVariants.{Open, Abandoned}
 use Rattle.lgm_payer.specs.declared.unfound.Unfound.TheVariants as unfound
 use Rattle.lgm_payer.specs.declared.unpaid.Unpaid.{Unpaid}
@@ -90,7 +91,7 @@ prospect_in seen payer payment =
 -- ---- the next part
 
 -- a part of a payment was sent: over a route that is the answer, and that leaves each edge what is under way over it
-pub record IsSentIn (seen : Seen) (old new : PayerState) (payment part odds : ℕ) (is_best : Bool) (payloads : List (List ℕ)) : Type 0 where
+pub record IsSentIn (seen : Seen) (old new : PayerState) (payment : ℕ) (sending : Sending) : Type 0 where
   pub place : ℕ
   pub before : PaymentState
   pub offer : Offer
@@ -101,12 +102,12 @@ pub record IsSentIn (seen : Seen) (old new : PayerState) (payment part odds : �
   pub tries : length before.parts < before.bounds.most_tries
   pub offered : IsOffered (prospect_in seen old before) before offer
   pub room : HaveRoom seen.rows seen.own before.hints (all_since seen.reckoned old.payments) (all_under_way old.payments) offer.found.route
-  pub payloads_are : built_for before.arrival offer.found.route ≡ Ok payloads
-  pub number : part ≡ old.sent
-  pub odds_are : odds ≡ offer.odds
-  pub best_is : is_best ≡ offer.found.is_best
+  pub payloads_are : built_for before.arrival offer.found.route ≡ Ok sending.payloads
+  pub odds_are : sending.odds ≡ offer.odds
+  pub best_is : sending.is_best ≡ offer.found.is_best
+  pub part_is : sending.part ≡ part_of old.sent offer.found.route offer.amount seen.height
   pub sends : new ≡ record old {
-    payments = slice_set old.payments place (with_sent (part_of part offer.found.route offer.amount seen.height) before);
+    payments = slice_set old.payments place (with_sent sending.part before);
     sent = old.sent + 1;
   }
 

@@ -22,13 +22,14 @@ use Rattle.lgm_route.specs.Odds.{penalty_by}
 use Rattle.lgm_route.specs.Preferred.{IsRouteBy, penalty_at, preferred_answer, no_preferences}
 use Rattle.lgm_odds.specs.RouteOdds.{route_odds}
 use Rattle.lgm_odds.specs.Room.{room_into}
+use Rattle.lgm_odds.specs.Cut.{Capacities, CutParts, IsNarrowCut}
 use Rattle.lgm_payer.specs.declared.failure.Ending.{Ending}
 use Rattle.lgm_payer.specs.declared.failure.Ending.TheVariants.{Unreadable, Failed}
 use Rattle.lgm_payer.specs.declared.invoice.Invoice.{Invoice}
 use Rattle.lgm_payer.specs.declared.offer.Offer.{Offer}
 use Rattle.lgm_payer.specs.declared.part.Part.{Part}
 use Rattle.lgm_payer.specs.declared.unfound.Unfound.{Unfound}
-use Rattle.lgm_payer.specs.declared.unfound.Unfound.TheVariants.{Search, TooDear, Short, PayeeShort}
+use Rattle.lgm_payer.specs.declared.unfound.Unfound.TheVariants.{Search, TooDear, Short, PayeeShort, PathsShort}
 use Rattle.lgm_payer.specs.Failures.{kind_of, is_far}
 use Rattle.lgm_payer.specs.Reasons.{is_mendable}
 use Rattle.lgm_payer.specs.Payments.{PaymentState, IsShare, fees, left, parts_left}
@@ -96,7 +97,7 @@ abbrev pub room_out : Point → List ExtraEdge → ℕ
 room_out payer extra = min (2 ^ 64 - 1) (sum_by (λ edge. if is_point edge.from payer then edge.max else 0) extra)
 
 -- what a part is searched over: the penalty of an edge for an amount, the odds that a route fails, the edges, the height, and
--- what the payer's channels can send together, and the edges into the payee carry
+-- what the payer's channels can send together, the edges into the payee carry, and each edge can carry in all
 pub record Prospect : Type 0 where
   pub penalty : PointEdge → ℕ → ℕ
   pub odds : List Hop → ℕ
@@ -104,6 +105,7 @@ pub record Prospect : Type 0 where
   pub height : ℕ
   pub room : ℕ
   pub payee_room : ℕ
+  pub capacities : Capacities
 
 -- the penalty by what is believed of edges
 abbrev pub penalty_with : Preferences → (ℕ → Point → Estimate) → PointEdge → ℕ → ℕ
@@ -119,6 +121,13 @@ prospect_of preferences believed known rows payment own since busy height = reco
   height = height;
   room = room_out payment.payer (extra_of payment own since busy);
   payee_room = room_into rows (extra_of payment own since busy) (limits_of payment rows busy) believed payment.invoice.payee;
+  capacities = record {
+    rows = rows;
+    extra = extra_of payment own since busy;
+    limits = limits_of payment rows busy;
+    believed = believed;
+    payer = payment.payer;
+  };
 }
 
 -- that of a payer that prefers nothing but to send least
@@ -169,6 +178,7 @@ IsReason prospect payment amount (Search fault) =
 IsReason prospect payment amount (TooDear fee) = IsTooDear prospect payment amount fee
 IsReason prospect payment amount (Short room) = ⊥
 IsReason prospect payment amount (PayeeShort room) = ⊥
+IsReason prospect payment amount (PathsShort room) = ⊥
 
 -- ---- which part is chosen
 
@@ -223,12 +233,20 @@ pub record IsFirstLikely (prospect : Prospect) (payment : PaymentState) (offer :
   pub amount : offer.amount ≡ piece payment pieces
   pub likely : is_likely offer ≡ true
 
--- a cut: the payer's channels can't send what is left, or the edges into the payee can't carry it, in however many parts
+-- the paths from the payer to the payee can't carry what is left, in however many parts: a cut between them has this room,
+-- which is less
+abbrev pub ArePathsShort : Prospect → PaymentState → ℕ → Type 0
+ArePathsShort prospect payment room =
+    (cut : CutParts) × IsNarrowCut prospect.capacities payment.invoice.payee (left payment) cut room
+
+-- a cut: the payer's channels can't send what is left, or the edges into the payee can't carry it, or those across a cut in
+-- between, in however many parts
 abbrev pub IsShort : Prospect → PaymentState → Unfound → Type 0
 IsShort prospect payment (Search fault) = ⊥
 IsShort prospect payment (TooDear fee) = ⊥
 IsShort prospect payment (Short room) = (room ≡ prospect.room) × (room < left payment)
 IsShort prospect payment (PayeeShort room) = (room ≡ prospect.payee_room) × (room < left payment)
+IsShort prospect payment (PathsShort room) = ArePathsShort prospect payment room
 
 -- what a part is sent over: a route for the first amount that has a likely one, or else of all tried the best one
 pub record IsOffered (prospect : Prospect) (payment : PaymentState) (offer : Offer) : Type 0 where

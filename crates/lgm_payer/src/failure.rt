@@ -186,7 +186,6 @@ impl FailureKind {
         }
     }
 
-    /// Whether it is a balance.
     pub(crate) fn is_balance(self) -> bool
         ensures { result ≡ is_balance self }
     {

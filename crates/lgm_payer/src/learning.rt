@@ -70,7 +70,6 @@ fn teach_refused(
     Ok(())
 }
 
-/// The hops before a place.
 fn hops_before(route: &[Hop], place: usize) -> &[Hop]
     ensures { result.now ≡ take place route.now }
 {
@@ -81,8 +80,8 @@ fn hops_before(route: &[Hop], place: usize) -> &[Hop]
     }
 }
 
-/// Has estimates learn what the failure of a part over a route teaches, while these hops are under way. The only error
-/// is out of memory, which leaves some of it learnt.
+/// Has estimates learn what the failure of a part over a route teaches, while these hops are under way. Out of
+/// memory leaves some of it learnt.
 pub(crate) fn learn(
     estimates: &mut Estimates,
     payer: &Point,
@@ -127,8 +126,7 @@ fn teach_arrived(
     Ok(())
 }
 
-/// Has estimates learn what it teaches that a payee took the whole. The only error is out of memory, which leaves some
-/// of it learnt.
+/// Has estimates learn what it teaches that a payee took the whole. Out of memory leaves some of it learnt.
 pub(crate) fn learn_arrived(
     estimates: &mut Estimates,
     payer: &Point,

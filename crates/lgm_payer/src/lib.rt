@@ -1,6 +1,8 @@
 //! What to send next for an invoice, in one part or several, by what became of what was sent.
 //!
 //! A [`Payer`] has its payments, and what it has learnt of edges. A [`Payment`] is an invoice, what its payment may take, and the parts that were ever sent for it, each with how it ended.
+//!
+//! Where a public call's error is `AllocError`, memory ran out, and nothing has changed.
 #![tactic(auto)]
 
 mod bounds;

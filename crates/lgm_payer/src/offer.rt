@@ -3,6 +3,7 @@
 ghost use Rattle.std.specs.Prelude.{◌≡◌};
 ghost use Rattle.lgm_payer.specs.Searches.{is_likely, brings_more, better};
 
+use crate::part::Part;
 use lgm_payload::Payloads;
 use lgm_route::Found;
 
@@ -55,11 +56,11 @@ impl Offer {
     }
 }
 
-/// A part that is under way from now on.
+/// A part that is under way from now on, to be sent.
 #[derive(Debug, Drop)]
 pub struct Sending {
-    /// Its number: how many parts its payer had sent before, over all payments.
-    pub part: u64,
+    /// The part, as its payment has it.
+    pub part: Part,
     /// Whether its route is the best one.
     pub is_best: bool,
     /// The odds that it fails, in millionths: 1,000,000 is 1 to 1.

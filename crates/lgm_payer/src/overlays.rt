@@ -80,7 +80,7 @@ fn capacity_limit(map: &Map, payer: &Point, busy: &[Hop], hop: &Hop) -> Option<L
     Some(limit_of(hop, capacity.saturating_sub(carried)))
 }
 
-/// Adds a limit, if there is one. The only error is out of memory, which changes nothing.
+/// Adds a limit, if there is one. Out of memory changes nothing.
 fn add_limit(limits: &mut Vec<Limit>, limit: Option<Limit>) -> Result<(), AllocError>
     ensures { OnOk result (limits.new.items ≡ limits.old.items ++ listed limit) }
 {
@@ -90,7 +90,7 @@ fn add_limit(limits: &mut Vec<Limit>, limit: Option<Limit>) -> Result<(), AllocE
     Ok(())
 }
 
-/// Adds a silent node, if there is one. The only error is out of memory, which changes nothing.
+/// Adds a silent node, if there is one. Out of memory changes nothing.
 fn add_silent(silent: &mut Vec<Point>, node: Option<Point>) -> Result<(), AllocError>
     ensures { OnOk result (silent.new.items ≡ silent.old.items ++ listed node) }
 {
@@ -145,7 +145,6 @@ pub(crate) fn silence_by_failures(
     Ok(())
 }
 
-/// Adds edges to an overlay.
 fn overlay_edges(overlay: &mut Overlay, edges: &[ExtraEdge]) -> Result<(), AllocError>
     ensures { OnOk result (overlay.new ≡ record overlay.old { extra = overlay.old.extra ++ map extra_edge edges.now }) }
 {
@@ -155,7 +154,6 @@ fn overlay_edges(overlay: &mut Overlay, edges: &[ExtraEdge]) -> Result<(), Alloc
     Ok(())
 }
 
-/// Adds limits to an overlay.
 fn overlay_limits(overlay: &mut Overlay, limits: &[Limit]) -> Result<(), AllocError>
     ensures { OnOk result (overlay.new ≡ record overlay.old { limits = overlay.old.limits ++ limits.now }) }
 {
@@ -165,7 +163,6 @@ fn overlay_limits(overlay: &mut Overlay, limits: &[Limit]) -> Result<(), AllocEr
     Ok(())
 }
 
-/// Adds silent nodes to an overlay.
 fn overlay_silent(overlay: &mut Overlay, silent: &[Point]) -> Result<(), AllocError>
     ensures { OnOk result (overlay.new ≡ record overlay.old { silent = overlay.old.silent ++ silent.now }) }
 {
@@ -175,7 +172,6 @@ fn overlay_silent(overlay: &mut Overlay, silent: &[Point]) -> Result<(), AllocEr
     Ok(())
 }
 
-/// The overlay of edges, limits and silent nodes. The only error is out of memory.
 pub(crate) fn overlaid(
     alloc: Global,
     extra: &[ExtraEdge],

@@ -9,6 +9,7 @@ ghost use Rattle.lgm_payer.specs.History.{LearntIsReported};
 
 mod events;
 mod next_part;
+mod restoring;
 
 use crate::bounds::Bounds;
 use crate::invoice::Invoice;
@@ -102,7 +103,7 @@ impl Payer {
         Ok(number)
     }
 
-    /// Adds a payment. The only error is out of memory, which changes nothing.
+    /// Adds a payment. Out of memory changes nothing.
     fn add(&mut self, payment: Payment) -> Result<(), AllocError>
         ensures added { OnOk result (self.new ≡ record self.old { payments = self.old.payments ++ payment ∷ [] }) }
         ensures stays { OnErr result (self.new ≡ self.old) }

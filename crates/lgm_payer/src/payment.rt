@@ -9,6 +9,7 @@ ghost use Rattle.lgm_payer.specs.Events.{has_held};
 mod choosing;
 mod dividing;
 mod events;
+mod restoring;
 mod searching;
 
 use crate::bounds::Bounds;
@@ -70,7 +71,7 @@ fn held_fee(parts: &[Part]) -> u64
     parts.iter().map(|part| part.held_fee()).sum()
 }
 
-/// The hints that don't leave the payer: the payer alone says what its channels are. The only error is out of memory.
+/// The hints that don't leave the payer: the payer alone says what its channels are.
 fn others_of(
     alloc: Global,
     payer: &Point,
@@ -86,7 +87,7 @@ fn others_of(
 }
 
 impl Payment {
-    /// A payment of which nothing was sent yet. Hints out of the payer are left out. The only error is out of memory.
+    /// A payment of which nothing was sent yet. Hints out of the payer are left out.
     pub(crate) fn of(
         alloc: Global,
         number: u64,
@@ -130,7 +131,7 @@ impl Payment {
     }
 
     /// Who pays.
-    pub(crate) fn payer(&self) -> &Point
+    pub fn payer(&self) -> &Point
         ensures { result.now ≡ self.now.payer }
     {
         &self.payer
@@ -179,7 +180,7 @@ impl Payment {
     }
 
     /// What the payee gets beside a route.
-    pub(crate) fn arrival(&self) -> &Arrival
+    pub fn arrival(&self) -> &Arrival
         ensures { result.now ≡ self.now.arrival }
     {
         &self.arrival
@@ -228,7 +229,6 @@ impl Payment {
         self.most_at_once() - self.parts.iter().filter(|part| part.is_held()).count()
     }
 
-    /// The place of the part with a number.
     fn part_place(&self, number: u64) -> Option<usize>
         ensures exact { result ≡ part_place self.now.parts number }
         ensures there { IfSome result (λ place. place < length self.now.parts) }

@@ -1,5 +1,6 @@
 //! What a payer sees.
 
+use lgm_gossip::Point;
 use lgm_graph::{Estimates, ExtraEdge, Limit, Overlay, View};
 use lgm_route::{Preferences, SearchBudget};
 use lgm_store::Map;
@@ -7,7 +8,7 @@ use lgm_store::Map;
 /// What a payer sees when it asks for a part of a payment.
 #[derive(Clone, Copy)]
 pub struct Sight<'a> {
-    /// The map.
+    /// The map in which a route for the part is sought.
     pub map: &'a Map,
     /// Its view.
     pub view: &'a View,
@@ -45,4 +46,6 @@ pub(crate) struct Outlook<'a> {
     pub(crate) room: u64,
     /// What the edges into the payee can carry together, in msat.
     pub(crate) payee_room: u64,
+    /// The payer.
+    pub(crate) payer: Point,
 }

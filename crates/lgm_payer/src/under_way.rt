@@ -10,7 +10,7 @@ use crate::payment::Payment;
 use lgm_graph::Hop;
 use std::alloc::{AllocError, Global};
 
-/// Adds the hops of a part, unless it failed. The only error is out of memory, which adds nothing.
+/// Adds the hops of a part, unless it failed. Out of memory adds nothing.
 fn add_held(busy: &mut Vec<Hop>, part: &Part) -> Result<(), AllocError>
     ensures { OnOk result (busy.new.items ≡ busy.old.items ++ held_hops part.now) }
 {
@@ -20,7 +20,7 @@ fn add_held(busy: &mut Vec<Hop>, part: &Part) -> Result<(), AllocError>
     Ok(())
 }
 
-/// Adds those of some parts. The only error is out of memory, which leaves some added.
+/// Adds those of some parts. Out of memory leaves some added.
 fn add_all_held(busy: &mut Vec<Hop>, parts: &[Part]) -> Result<(), AllocError>
     ensures { OnOk result (busy.new.items ≡ busy.old.items ++ flat_map held_hops parts.now) }
 {
@@ -40,7 +40,7 @@ fn add_under_way(busy: &mut Vec<Hop>, payment: &Payment) -> Result<(), AllocErro
     Ok(())
 }
 
-/// The hops of all parts that are under way, of all payments. The only error is out of memory.
+/// The hops of all parts that are under way, of all payments.
 pub(crate) fn all_under_way(alloc: Global, payments: &[Payment]) -> Result<Vec<Hop>, AllocError>
     ensures { IfOk result (λ busy. busy.items ≡ all_under_way payments.now) }
 {
@@ -71,7 +71,7 @@ fn add_all_since(number: u64, since: &mut Vec<Hop>, parts: &[Part]) -> Result<()
     Ok(())
 }
 
-/// The hops of all parts of a number or a later one that didn't fail, of all payments. The only error is out of memory.
+/// The hops of all parts of a number or a later one that didn't fail, of all payments.
 pub(crate) fn all_since(
     alloc: Global,
     number: u64,

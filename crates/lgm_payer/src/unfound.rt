@@ -26,6 +26,10 @@ pub enum Unfound {
     /// carry it.
     #[error("the payee can get {0} msat")]
     PayeeShort(u64),
+    /// All paths from the payer to the payee can carry no more than this much together, in msat, which is less than what
+    /// is left: a cut between the two has no more room, so no parts can carry it.
+    #[error("all paths can carry {0} msat")]
+    PathsShort(u64),
 }
 
 impl Unfound {

@@ -2,3 +2,4 @@ mod events;
 mod made;
 mod parts;
 mod script;
+mod states;

@@ -32,7 +32,6 @@ impl Model for Arrival {
     } };
 }
 
-/// Optional bytes, copied.
 fn copied(alloc: Global, bytes: &Option<Bytes>) -> Result<Option<Bytes>, AllocError>
     ensures { IfOk result (λ copied. copied ≡ bytes.now) }
 {
@@ -88,6 +87,27 @@ impl Arrival {
             }),
             metadata: copied(alloc, &self.metadata)?,
         })
+    }
+
+    /// The payment secret.
+    pub fn secret(&self) -> &[u8; 32]
+        ensures { result.now ≡ self.now.secret }
+    {
+        &self.secret
+    }
+
+    /// What the payee is to get by all parts of the payment together, in msat.
+    pub fn total(&self) -> u64
+        ensures { result ≡ self.now.total }
+    {
+        self.total
+    }
+
+    /// The bytes that the payee asked the payer to return, if it did.
+    pub fn metadata(&self) -> &Option<Bytes>
+        ensures { result.now ≡ self.now.metadata }
+    {
+        &self.metadata
     }
 
     /// The custom records.

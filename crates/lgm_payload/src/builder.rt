@@ -54,8 +54,6 @@ fn write_all(alloc: Global, route: &Route, arrival: &Arrival) -> Result<Payloads
 /// The payloads of a route's hops, each preceded by its length; each is for the node at the end of
 /// the hop. It says what to offer over the next hop; that of the last hop says what the payee
 /// receives, with the payment secret and the amount as the total. (BOLT 4, "Payload Format".)
-///
-/// The only error is out of memory.
 pub fn build(alloc: Global, route: &Route, secret: &[u8; 32]) -> Result<Payloads, AllocError>
     ensures payloads { IfOk result (λ payloads. payloads ≡ payloads_of secret.now route.now) }
 

@@ -3,6 +3,8 @@
 //! [`build`] makes the payloads of a route, one per hop, and [`build_for`] those of one part of a
 //! payment, with payment metadata and custom records; [`read`] parses one, or reports its first
 //! fault. Contracts say which bytes encode which payload.
+//!
+//! Where an error is `AllocError`, memory ran out.
 #![tactic(auto)]
 
 mod arrival;

@@ -6,7 +6,7 @@ ghost use Rattle.lgm_wire.specs.reading.Reading.{Sees, Gives};
 ghost use Rattle.lgm_wire.specs.TlvView.{record_of, records_of};
 ghost use Rattle.lgm_payload.specs.HopPayload.{IsPayload};
 ghost use Rattle.lgm_payload.specs.reading.Reading.{number_at, scid_at, payment_at, text_at, stream_at};
-ghost use Rattle.lgm_payload.specs.reading.Reading.{IsTaken, known_at, whole, payload_at, fault};
+ghost use Rattle.lgm_payload.specs.reading.Reading.{IsAdded, known_at, whole, payload_at, fault};
 ghost use Rattle.lgm_payload.specs.declared.hop_payload.HopPayload.{HopPayload};
 
 use crate::fault::PayloadFault;
@@ -88,8 +88,8 @@ fn payment(value: &[u8]) -> Result<Payment, PayloadFault>
 }
 
 /// Adds the value of one more record. After a fault the values found before may be lost.
-fn take(alloc: Global, known: &mut FoundValues, tlv: &Tlv) -> Result<(), PayloadFault>
-    ensures { IsTaken known.old (record_of tlv.now) result known.new }
+fn add_value(alloc: Global, known: &mut FoundValues, tlv: &Tlv) -> Result<(), PayloadFault>
+    ensures { IsAdded known.old (record_of tlv.now) result known.new }
 {
     match tlv.kind {
         2 => known.amount = Some(number(2, 8, tlv.value)?),
@@ -116,12 +116,11 @@ fn told(alloc: Global, records: &[Tlv]) -> Result<FoundValues, PayloadFault>
         metadata: None,
     };
     for tlv in records {
-        take(alloc, &mut known, tlv)?;
+        add_value(alloc, &mut known, tlv)?;
     }
     Ok(known)
 }
 
-/// The payload with these values.
 fn payload(known: FoundValues) -> Result<HopPayload, PayloadFault>
     ensures { Sees (λ payload. payload) result (whole known) }
 {

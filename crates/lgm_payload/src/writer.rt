@@ -74,7 +74,6 @@ fn append_metadata(text: &mut Vec<u8>, metadata: &Option<Bytes>) -> Result<(), N
     }
 }
 
-/// Appends custom records.
 fn append_custom(text: &mut Vec<u8>, custom: &[CustomRecord]) -> Result<(), NoMemory>
     ensures { OnOk result (text.new.items ≡
         text.old.items ++ flat_map record_bytes (custom_records custom.now)) }

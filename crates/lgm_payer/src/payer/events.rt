@@ -46,7 +46,7 @@ fn forgetting_fault(payment: &Payment) -> Option<PayerFault>
 }
 
 impl Payer {
-    /// What was learnt and what the failure of a part teaches. The only error is out of memory.
+    /// What was learnt and what the failure of a part teaches.
     fn learnt_by(
         &self,
         alloc: Global,
@@ -64,7 +64,7 @@ impl Payer {
         Ok(learnt)
     }
 
-    /// What was learnt and what it teaches that the payee took the whole. The only error is out of memory.
+    /// What was learnt and what it teaches that the payee took the whole.
     fn learnt_arrived(&self, place: usize) -> Result<Estimates, AllocError>
         requires { place < length self.now.payments }
         ensures { IfOk result (λ learnt. IfSome (slice_get self.now.payments place) (λ payment.
@@ -167,7 +167,7 @@ impl Payer {
     }
 
     /// What was learnt of edges fades, since balances move: half of it is left for each half-life. Call it once an hour
-    /// or so. The only error is out of memory, which changes nothing.
+    /// or so. Out of memory changes nothing.
     pub fn fade(&mut self, alloc: Global, map: &Map, time: Elapsed) -> Result<(), AllocError>
         ensures faded { OnOk result (IsFadedIn map.now time self.old self.new) }
         ensures stays { OnErr result (self.new ≡ self.old) }

@@ -2,6 +2,7 @@
 
 ghost use Rattle.std.specs.Prelude.{◌≡◌, ◌⊎◌, ◌<◌, ◌≤◌, ◌+◌, ◌*◌, ◌-◌, ◌^◌, None, Ok, Some, true, false, length, IfOk, IfErr, IfSome, OnOk, OnErr, slice_get};
 ghost use Rattle.lgm_graph.specs.Graph.{IsGraphOf};
+ghost use Rattle.lgm_payload.specs.Building.{onion_len};
 ghost use Rattle.lgm_payer.specs.Payments.{left, is_paid};
 ghost use Rattle.lgm_payer.specs.Searches.{IsOffered};
 ghost use Rattle.std.specs.Option.{unwrap_or};
@@ -10,6 +11,7 @@ ghost use Rattle.lgm_payer.specs.Looking.{seen, IsUnfound, IsReady, IsUnready};
 
 use super::Payer;
 use crate::offer::{Offer, Sending};
+use crate::part::Part;
 use crate::payment::Payment;
 use crate::sight::Sight;
 use crate::stage::Stage;
@@ -17,7 +19,7 @@ use crate::under_way::{all_since, all_under_way};
 use crate::unfound::Unfound;
 use crate::unpaid::Unpaid;
 use lgm_gossip::Point;
-use lgm_graph::{Estimates, ExtraEdge};
+use lgm_graph::{Estimates, ExtraEdge, Route, RoutingGraph};
 use lgm_odds::beside;
 use lgm_payload::build_for;
 use std::alloc::Global;
@@ -139,7 +141,9 @@ impl Payer {
     /// for the next one until there is none.
     ///
     /// The part is what is left, or else its half, its quarter and so on: the first whose best route fails with odds of
-    /// 3 to 1 or less, or else the one that is expected to bring most. An error changes nothing.
+    /// 3 to 1 or less, or else the one that is expected to bring most. Where what is left would be divided, and a cut
+    /// between the payer and the payee is found across which less can be carried, nothing is sent
+    /// ([`Unfound::PathsShort`]). An error changes nothing.
     pub fn next_part(
         &mut self,
         alloc: Global,
@@ -148,7 +152,9 @@ impl Payer {
     ) -> Result<Option<Sending>, Unpaid>
         requires { IsGraphOf sight.now.map.now sight.now.view.now }
         ensures sent { IfOk result (λ next. IfSome next (λ sending.
-            IsSentIn (seen sight.now) self.old self.new payment sending.part sending.odds sending.is_best sending.payloads)) }
+            IsSentIn (seen sight.now) self.old self.new payment sending)) }
+        // With an HMAC each, its payloads fit the 1,300 bytes of an onion packet.
+        ensures fits { IfOk result (λ next. IfSome next (λ sending. onion_len sending.payloads ≤ 1300)) }
         ensures whole { result ≡ Ok None → IsWhole self.old payment }
         ensures idle { result ≡ Ok None → self.new ≡ self.old }
         ensures why { IfErr result (IsUnpaidIn (seen sight.now) self.old payment) }
@@ -162,15 +168,16 @@ impl Payer {
         }
         let offer = self.offer(alloc, place, sight)?;
         let payloads = build_for(alloc, &offer.found.route, self.payments[place].arrival())?;
-        let part = self.sent;
-        let Some(next) = part.checked_add(1) else {
+        let number = self.sent;
+        let Some(next) = number.checked_add(1) else {
             return Err(Unpaid::NumbersUsedUp);
         };
-        let (is_best, odds) = (offer.found.is_best, offer.odds);
-        self.payments[place].send(part, offer.found.route, offer.amount, sight.height)?;
+        let (is_best, odds, amount) = (offer.found.is_best, offer.odds, offer.amount);
+        let route = Route::of(alloc, offer.found.route.as_slice())?;
+        self.payments[place].send(number, offer.found.route, amount, sight.height)?;
         self.sent = next;
         Ok(Some(Sending {
-            part,
+            part: Part::over(number, route, amount, sight.height),
             is_best,
             odds,
             payloads,

@@ -111,6 +111,7 @@ impl Payment {
             height: sight.height,
             room,
             payee_room,
+            payer: self.payer,
         };
         self.offer_or_short(alloc, &outlook)
     }

@@ -3,14 +3,14 @@
 ghost use Rattle.std.specs.Prelude.{◌≡◌, ◌≤◌, ◌<◌, ◌+◌, ◌*◌, ◌/◌, ◌^◌, max, length, IfOk, IfErr, IfSome};
 ghost use Rattle.lgm_graph.specs.Graph.{IsGraphOf};
 ghost use Rattle.lgm_payer.specs.Payments.{left, parts_left, IsShare};
-ghost use Rattle.lgm_payer.specs.Searches.{piece, next_pieces, IsFit, IsReason, IsOffered, IsLast};
-ghost use Rattle.lgm_payer.specs.Looking.{prospect_at, best_or, IsUnfound};
+ghost use Rattle.lgm_payer.specs.Searches.{piece, next_pieces, IsFit, IsReason, IsOffered};
+ghost use Rattle.lgm_payer.specs.Looking.{prospect_at, best_or, IsCutOff, IsUnfound};
 
 use super::Payment;
 use crate::offer::Offer;
 use crate::sight::Outlook;
 use crate::unfound::Unfound;
-use lgm_odds::route_odds;
+use lgm_odds::{Liquidity, cut_between, route_odds};
 use std::alloc::Global;
 
 impl Payment {
@@ -68,6 +68,27 @@ impl Payment {
         })
     }
 
+    /// Whether all paths to the payee can carry what is left together, as far as a search for cuts finds out. It is asked
+    /// once, when what is left is to be divided: while it is one piece.
+    fn check_paths(&self, alloc: Global, outlook: &Outlook<'_>, pieces: u64) -> Result<(), Unfound>
+        ensures { IfErr result (IsCutOff (prospect_at outlook.now) self.now) }
+    {
+        if pieces != 1 {
+            return Ok(());
+        }
+        let liquidity = Liquidity {
+            map: outlook.map,
+            extra: outlook.extra,
+            limits: outlook.limits,
+            estimates: outlook.estimates,
+            payer: outlook.payer,
+        };
+        match cut_between(alloc, &liquidity, &self.invoice.payee, self.left())? {
+            Some((_cut, room)) => Err(Unfound::PathsShort(room)),
+            None => Ok(()),
+        }
+    }
+
     /// The best of what was tried, or why there is none.
     fn best_or(best: Option<Offer>, reason: Unfound) -> Result<Offer, Unfound>
         ensures { result ≡ best_or best reason }
@@ -79,7 +100,8 @@ impl Payment {
     }
 
     /// What the next part is sent over: what is left, or else its half, its quarter and so on: the first with a likely
-    /// route, or else the one that is expected to bring most.
+    /// route, or else the one that is expected to bring most. Nothing, if it is to be divided and a cut is found that
+    /// can't carry it.
     fn offer(&self, alloc: Global, outlook: &Outlook<'_>) -> Result<Offer, Unfound>
         requires beside { IsGraphOf outlook.now.map.now outlook.now.view.now }
         requires few { length outlook.now.view.now.points + 2 * length outlook.now.overlay.now.extra < 2 ^ 32 }
@@ -87,7 +109,7 @@ impl Payment {
         requires room { left self.now ≤ outlook.now.room }
         requires payee_room { left self.now ≤ outlook.now.payee_room }
         ensures offered { IfOk result (IsOffered (prospect_at outlook.now) self.now) }
-        ensures why { IfErr result (IsLast (prospect_at outlook.now) self.now) }
+        ensures why { IfErr result (IsUnfound (prospect_at outlook.now) self.now) }
     {
         let mut pieces = 1u64;
         let mut best: Option<Offer> = None;
@@ -102,6 +124,7 @@ impl Payment {
                     let better = Offer::better(best, offer);
                     match next {
                         Some(more) => {
+                            self.check_paths(alloc, outlook, pieces)?;
                             best = Some(better);
                             pieces = more;
                         }
@@ -113,7 +136,10 @@ impl Payment {
                         return Err(reason);
                     }
                     match next {
-                        Some(more) => pieces = more,
+                        Some(more) => {
+                            self.check_paths(alloc, outlook, pieces)?;
+                            pieces = more;
+                        }
                         None => return Payment::best_or(best, reason),
                     }
                 }

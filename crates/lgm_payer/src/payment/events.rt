@@ -36,7 +36,7 @@ fn failure_fault(route: &[Hop], ending: Ending) -> Option<PayerFault>
 }
 
 impl Payment {
-    /// Notes that a part over a route was sent. The only error is out of memory, which changes nothing.
+    /// Notes that a part over a route was sent. Out of memory changes nothing.
     pub(crate) fn send(
         &mut self,
         number: u64,
@@ -95,8 +95,8 @@ impl Payment {
         self.stage = stage;
     }
 
-    /// Has estimates learn what the failure of the part at a place teaches, while these hops are under way. The only
-    /// error is out of memory, which leaves some of it learnt.
+    /// Has estimates learn what the failure of the part at a place teaches, while these hops are under way. Out of
+    /// memory leaves some of it learnt.
     pub(crate) fn teach(
         &self,
         estimates: &mut Estimates,
@@ -119,8 +119,8 @@ impl Payment {
         )
     }
 
-    /// Has estimates learn what it teaches that the payee took the whole. The only error is out of memory, which leaves
-    /// some of it learnt.
+    /// Has estimates learn what it teaches that the payee took the whole. Out of memory leaves some of it
+    /// learnt.
     pub(crate) fn teach_arrived(&self, estimates: &mut Estimates) -> Result<(), AllocError>
         ensures { OnOk result (AreTaught (learnt_arrived self.now.payer self.now.hints self.now.parts) estimates.old estimates.new) }
     {

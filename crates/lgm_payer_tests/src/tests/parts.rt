@@ -67,7 +67,7 @@ fn the_amount_is_divided(rt: HostRuntime) -> Result<(), Fail> {
         return Err(Fail::from("nothing was sent"));
     };
     assert_eq!(rt;
-        (first.part, first.is_best, first.odds),
+        (first.part.number, first.is_best, first.odds),
         (0, true, 4_950_495)
     );
     assert_eq!(rt; first.payloads.as_slice().len(), 2);
@@ -155,6 +155,31 @@ fn the_payee_gets_too_little(rt: HostRuntime) -> Result<(), Fail> {
     let records = Vec::new(alloc);
     payer.begin(alloc, invoice(200_000_001), &[], None, records, BOUNDS)?;
     let cut = Unpaid::Unfound(Unfound::PayeeShort(200_000_000));
+    run(
+        &rt,
+        alloc,
+        &mut payer,
+        &map,
+        &[Step::Next(0, 1_000_000_000, 0, Err(cut))],
+    );
+    Ok(())
+}
+
+/// A channel of 100,000 satoshis joins two hubs. The payer's channel with one of them can send ten times as much, and the
+/// other hub forwards that to the payee.
+#[test]
+fn a_thin_channel_joins_two_hubs(rt: HostRuntime) -> Result<(), Fail> {
+    let alloc = rt.alloc();
+    let items = [
+        Item::Channel(1, 0, 1),
+        Item::Update(up_to(1, 0, 1, 100_000_000)),
+    ];
+    let map = map_of(alloc, &items)?;
+    let mut payer = payer_without(alloc)?;
+    let hints = [edge(91, 1, 3, 1_000_000_000)];
+    let records = Vec::new(alloc);
+    payer.begin(alloc, invoice(100_000_001), &hints, None, records, BOUNDS)?;
+    let cut = Unpaid::Unfound(Unfound::PathsShort(100_000_000));
     run(
         &rt,
         alloc,

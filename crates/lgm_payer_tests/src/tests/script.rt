@@ -60,7 +60,7 @@ fn next(
     reckoned: u64,
 ) -> Result<Option<u64>, Unpaid> {
     match next_part(rt, alloc, payer, payment, map, max, reckoned)? {
-        Some(sending) => Ok(Some(sending.part)),
+        Some(sending) => Ok(Some(sending.part.number)),
         None => Ok(None),
     }
 }

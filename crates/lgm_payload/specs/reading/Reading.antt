@@ -107,10 +107,10 @@ with_record known r = record {
   metadata = if r.kind == 16 then Some r.value else known.metadata;
 }
 
--- one more record was taken, or has a fault, or memory ran out
-abbrev pub IsTaken : FoundValues → TlvRecord → Result (Unit {0}) PayloadFault → FoundValues → Type 0
-IsTaken known r (Ok _) after = (record_fault r ≡ None) × (after ≡ with_record known r)
-IsTaken known r (Err fault) after = (fault ≡ NoMemory) ⊎ (record_fault r ≡ Some fault)
+-- one more record was added, or has a fault, or memory ran out
+abbrev pub IsAdded : FoundValues → TlvRecord → Result (Unit {0}) PayloadFault → FoundValues → Type 0
+IsAdded known r (Ok _) after = (record_fault r ≡ None) × (after ≡ with_record known r)
+IsAdded known r (Err fault) after = (fault ≡ NoMemory) ⊎ (record_fault r ≡ Some fault)
 
 -- the values in all records
 abbrev pub known_in : List TlvRecord → FoundValues

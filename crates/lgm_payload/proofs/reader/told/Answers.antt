@@ -5,11 +5,11 @@ use Rattle.lgm_payload.proofs.reader.told.Goals as goal
 
 pub loop-tlv-preserved : goal.loop-tlv-preserved
 loop-tlv-preserved c =
-    told_more c.args.records.now c.loop-tlv.tlv-index _ c.loop-tlv.known c.take.new.known c.loop-tlv-test.true
-    c.loop-tlv.invariant c.in_ok-take.ensures.0 c.in_ok-take.ensures.1
+    told_more c.args.records.now c.loop-tlv.tlv-index _ c.loop-tlv.known c.add_value.new.known c.loop-tlv-test.true
+    c.loop-tlv.invariant c.in_ok-add_value.ensures.0 c.in_ok-add_value.ensures.1
 
-pub returns-in_err-take : goal.returns-in_err-take
-returns-in_err-take c =
+pub returns-in_err-add_value : goal.returns-in_err-add_value
+returns-in_err-add_value c =
     let p = err_from_is_err_and c.from_residual.result c.from_residual.ensures.1 in
     rw (p.1, p.2) (told_fails c.args.records.now c.loop-tlv.tlv-index _ c.loop-tlv.known
-    c.in_err-take.field-0.0 c.loop-tlv-test.true c.loop-tlv.invariant c.in_err-take.ensures)
+    c.in_err-add_value.field-0.0 c.loop-tlv-test.true c.loop-tlv.invariant c.in_err-add_value.ensures)

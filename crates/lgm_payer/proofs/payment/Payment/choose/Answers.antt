@@ -27,8 +27,9 @@ returns-clause-offered c =
     payment.invoice.payee) (c.deref-3.ensures.value ∙ sym c.deref-8.ensures.value) in
     let same = prospect_is c.preferences_for.result (preferences_for sight.preferences payment) (estimate_of c.args.estimates.now)
     sight.view.now.known sight.map.now payment sight.own.now c.args.since.now c.args.busy.now sight.height c.deref-7.result.now
-    c.deref-8.result.now c.in_ok-overlay.overlay c.room_out-room.result c.in_ok-payee_room.payee_room c.preferences_for.ensures
-    (c.deref-7.ensures.value ∙ c.in_ok-extra.ensures) (c.deref-8.ensures.value ∙ c.in_ok-limits.ensures) over sends gets in
+    c.deref-8.result.now c.in_ok-overlay.overlay c.room_out-room.result c.in_ok-payee_room.payee_room c.self.inside.payer
+    c.preferences_for.ensures (c.deref-7.ensures.value ∙ c.in_ok-extra.ensures) (c.deref-8.ensures.value ∙ c.in_ok-limits.ensures)
+    over sends gets (ap (λ (p : PaymentState). p.payer) c.self.view_is) in
     offered_over _ (prospect_of (preferences_for sight.preferences payment) (estimate_of c.args.estimates.now) sight.view.now.known
     sight.map.now payment sight.own.now c.args.since.now c.args.busy.now sight.height) payment c.offer_or_short.result same c.offer_or_short.ensures.offered
 
@@ -50,8 +51,9 @@ returns-clause-why c =
     payment.invoice.payee) (c.deref-3.ensures.value ∙ sym c.deref-8.ensures.value) in
     let same = prospect_is c.preferences_for.result (preferences_for sight.preferences payment) (estimate_of c.args.estimates.now)
     sight.view.now.known sight.map.now payment sight.own.now c.args.since.now c.args.busy.now sight.height c.deref-7.result.now
-    c.deref-8.result.now c.in_ok-overlay.overlay c.room_out-room.result c.in_ok-payee_room.payee_room c.preferences_for.ensures
-    (c.deref-7.ensures.value ∙ c.in_ok-extra.ensures) (c.deref-8.ensures.value ∙ c.in_ok-limits.ensures) over sends gets in
+    c.deref-8.result.now c.in_ok-overlay.overlay c.room_out-room.result c.in_ok-payee_room.payee_room c.self.inside.payer
+    c.preferences_for.ensures (c.deref-7.ensures.value ∙ c.in_ok-extra.ensures) (c.deref-8.ensures.value ∙ c.in_ok-limits.ensures)
+    over sends gets (ap (λ (p : PaymentState). p.payer) c.self.view_is) in
     unfound_over _ (prospect_of (preferences_for sight.preferences payment) (estimate_of c.args.estimates.now) sight.view.now.known
     sight.map.now payment sight.own.now c.args.since.now c.args.busy.now sight.height) payment c.offer_or_short.result same c.offer_or_short.ensures.why
 

@@ -4,8 +4,8 @@ use Rattle.lgm_payer.specs.declared.offer.Offer.{Offer}
 use Rattle.lgm_payer.specs.declared.unfound.Unfound.{Unfound}
 use Rattle.std.specs.Prelude.{Result}
 use Rattle.lgm_payer.specs.Reasons.{is_mendable}
-use Rattle.lgm_payer.specs.Searches.{IsOffered, IsLast, start, next_pieces, is_likely}
-use Rattle.lgm_payer.specs.Looking.{prospect_at}
+use Rattle.lgm_payer.specs.Searches.{IsOffered, start, next_pieces, is_likely}
+use Rattle.lgm_payer.specs.Looking.{prospect_at, IsUnfound}
 use Rattle.lgm_payer.proofs.ChoiceLaws.{better_fits, unlikely_next, without_next, last_unmended, best_offered, none_offered}
 use Rattle.lgm_payer.proofs.payment.Payment.offer.Goals as goal
 
@@ -52,8 +52,8 @@ pub returns-then-not-may_be_mended-clause-why : goal.returns-then-not-may_be_men
 returns-then-not-may_be_mended-clause-why c =
     let before = c.dividing.invariant in
     let unmended : is_mendable c.in-Err.reason ≡ false = search rules in
-    last_unmended (prospect_at c.args.outlook.now) c.args.self.now c.dividing.pieces c.piece-amount.result c.dividing.best
-    c.in-Err.reason before.tried c.in-Err.ensures.why c.piece-amount.ensures.exact unmended
+    inr (inr (last_unmended (prospect_at c.args.outlook.now) c.args.self.now c.dividing.pieces c.piece-amount.result c.dividing.best
+    c.in-Err.reason before.tried c.in-Err.ensures.why c.piece-amount.ensures.exact unmended))
 
 pub dividing-preserved : goal.dividing-preserved
 dividing-preserved c =
@@ -89,6 +89,6 @@ returns-in-None-next-clause-why c =
     let none : Option ℕ = None in
     let next : none ≡ next_pieces c.args.self.now c.dividing.pieces =
     sym c.in-None-next.is ∙ c.next_pieces-next.ensures.exact in
-    subst (λ (r : Result Offer Unfound). IfErr r (IsLast (prospect_at c.args.outlook.now) c.args.self.now)) (sym c.best_or.ensures)
+    subst (λ (r : Result Offer Unfound). IfErr r (IsUnfound (prospect_at c.args.outlook.now) c.args.self.now)) (sym c.best_or.ensures)
     (none_offered (prospect_at c.args.outlook.now) c.args.self.now c.dividing.pieces c.piece-amount.result c.dividing.best
     c.in-Err.reason before.tried c.in-Err.ensures.why c.piece-amount.ensures.exact next)

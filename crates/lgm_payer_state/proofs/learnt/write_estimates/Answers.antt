@@ -1,0 +1,8 @@
+use Rattle.std.proofs.Common.{refl}
+use Rattle.lgm_payer_state.proofs.learnt.write_estimates.Goals as goal
+
+pub returns : goal.returns
+returns c = record {
+  written = rw (c.from_vec.ensures, c.in_ok-seal.ensures, c.in_ok-write_learnt.ensures.written, c.in_ok-extend_from_slice.ensures.items, c.new-out.ensures.items, c.opening.ensures) refl;
+  kept = record { back = c.in_ok-write_learnt.ensures.back };
+}
