@@ -3,8 +3,8 @@ use Rattle.std.proofs.Common.{◌≡◌, ℕ, get_or, ◌<◌, ◌+◌, ◌≤�
 use Rattle.std.proofs.Common.{min, Option, refl, sym, ap, subst, ◌∙◌, arith}
 use Rattle.std.specs.List.{AllByRecursion}
 use Rattle.std.proofs.lemmas.List.{length-take-le, length-drop, length_push, map-append, drop_min, drop-drop, drop_more, take_more}
-use Rattle.lgm_script.specs.declared.line_reader.TheConstants.{MAX_LINE}
-use Rattle.lgm_script.specs.declared.command.Command.{Command}
+use Rattle.lgm_script.specs.declared.input.line_reader.TheConstants.{MAX_LINE}
+use Rattle.lgm_script.specs.declared.grammar.command.Command.{Command}
 use Rattle.lgm_script.specs.Lines.{IsFirstLine}
 use Rattle.lgm_script.specs.Command.{command_of}
 use Rattle.lgm_script.specs.Groups.{AreFirstLines, AskNext}

@@ -5,10 +5,10 @@ use Rattle.std.specs.List.{starts_with}
 use Rattle.std.specs.Option.{option_map}
 use Rattle.std.specs.Cmp.Lexicographic.{pointwise}
 use Rattle.std.proofs.lemmas.Bool.{cases_Bool, ltb-true}
-use Rattle.lgm_script.specs.declared.line_form.Word.{Word}
-use Rattle.lgm_script.specs.declared.line_form.Word.TheVariants.{Message, Close, Query, Filter, Route}
-use Rattle.lgm_script.specs.declared.command.Command.{Command}
-use Rattle.lgm_script.specs.declared.command.Command.TheVariants as requests
+use Rattle.lgm_script.specs.declared.grammar.line_form.Word.{Word}
+use Rattle.lgm_script.specs.declared.grammar.line_form.Word.TheVariants.{Message, Close, Query, Filter, Route}
+use Rattle.lgm_script.specs.declared.grammar.command.Command.{Command}
+use Rattle.lgm_script.specs.declared.grammar.command.Command.TheVariants as requests
 use Rattle.lgm_script.specs.Field.{◌>>=◌, fields_of, number_of, number_below}
 use Rattle.lgm_script.specs.Item.{bytes_of, gossip_of, close_of}
 use Rattle.lgm_script.specs.RouteParameters.{payment_of}

@@ -8,8 +8,8 @@ use Rattle.hex.specs.Hex.{value_at, pair_value, decode_pairs}
 use Rattle.hex.specs.Hex.{◌>>=◌ as ◌>>=ᵣ◌}
 use Rattle.hex.specs.declared.error.FromHexError.{FromHexError}
 use Rattle.lgm_check.specs.declared.evidence.Evidence.{Evidence}
-use Rattle.lgm_script.specs.declared.item.Item.{Item}
-use Rattle.lgm_script.specs.declared.item.Item.TheVariants.{Gossip}
+use Rattle.lgm_script.specs.declared.grammar.item.Item.{Item}
+use Rattle.lgm_script.specs.declared.grammar.item.Item.TheVariants.{Gossip}
 use Rattle.lgm_script.specs.Field.{◌>>=◌, fields_of}
 use Rattle.lgm_script.specs.Item.{bytes_of, evidence_of, gossip_of}
 use Rattle.lgm_script.proofs.FieldsLaws.{some_field}

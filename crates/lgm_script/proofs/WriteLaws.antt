@@ -4,7 +4,7 @@ use Rattle.std.proofs.Common.{drop, take-add, Option, Result, Ok, refl, sym, ap,
 use Rattle.std.proofs.lemmas.List.{drop-drop, length-drop, length-take, take_rest, take_all}
 use Rattle.std.specs.Option.{option_map}
 use Rattle.std.proofs.lemmas.Bool.{ne_eqb}
-use Rattle.lgm_script.specs.declared.device.Failed.{Failed}
+use Rattle.lgm_script.specs.declared.devices.device.Failed.{Failed}
 use Rattle.lgm_script.proofs.AppendedBytesLaws.{appends_nothing, appends_both}
 use Rattle.lgm_script.specs.Device.{write_failures, Appends, AppendsSome}
 

@@ -4,11 +4,11 @@ use Rattle.std.specs.Prelude.{unwrap_or, codes, nat_eq, ◌==◌, ◌||◌, if�
 use Rattle.std.specs.List.{starts_with}
 use Rattle.std.specs.Option.{option_map}
 use Rattle.std.specs.Cmp.Lexicographic.{pointwise}
-use Rattle.lgm_script.specs.declared.command.Command.{Command}
-use Rattle.lgm_script.specs.declared.command.Command.TheVariants as requests
-use Rattle.lgm_script.specs.declared.item.Item.{Item}
-use Rattle.lgm_script.specs.declared.line_form.Word.{Word}
-use Rattle.lgm_script.specs.declared.line_form.Word.TheVariants as words
+use Rattle.lgm_script.specs.declared.grammar.command.Command.{Command}
+use Rattle.lgm_script.specs.declared.grammar.command.Command.TheVariants as requests
+use Rattle.lgm_script.specs.declared.grammar.item.Item.{Item}
+use Rattle.lgm_script.specs.declared.grammar.line_form.Word.{Word}
+use Rattle.lgm_script.specs.declared.grammar.line_form.Word.TheVariants as words
 use Rattle.lgm_script.specs.Field.{◌>>=◌, fields_of, number_below}
 use Rattle.lgm_script.specs.Item.{bytes_of, gossip_of, close_of}
 use Rattle.lgm_script.specs.RouteParameters.{payment_of}

@@ -2,7 +2,7 @@
 use Rattle.std.specs.Prelude.{◌≡◌, ℕ, ◌≤◌, List, [], ◌∷◌, ◌++◌, length, take, drop}
 use Rattle.std.specs.Prelude.{Option, Result, Ok, Err, IfSome, ◌==◌, if◌then◌else◌}
 use Rattle.std.specs.Option.{option_map}
-use Rattle.lgm_script.specs.declared.device.Failed.{Failed}
+use Rattle.lgm_script.specs.declared.devices.device.Failed.{Failed}
 
 -- a source: the bytes left, if the device specifies them, and how often it failed
 pub record Input : Type 0 where

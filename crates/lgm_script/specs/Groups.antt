@@ -1,10 +1,10 @@
 -- Lines that are answered together.
 use Rattle.std.specs.Prelude.{◌≡◌, ℕ, ◌+◌, ◌<◌, ◌≤◌, List, [], ◌∷◌, length, map, take, drop, Option}
 use Rattle.std.specs.List.{AllByRecursion}
-use Rattle.lgm_script.specs.declared.line_form.LineKind.{LineKind}
-use Rattle.lgm_script.specs.declared.line_form.LineKind.TheVariants.{Item, Question, Other}
-use Rattle.lgm_script.specs.declared.command.Command.{Command}
-use Rattle.lgm_script.specs.declared.command.Command.TheVariants as requests
+use Rattle.lgm_script.specs.declared.grammar.line_form.LineKind.{LineKind}
+use Rattle.lgm_script.specs.declared.grammar.line_form.LineKind.TheVariants.{Item, Question, Other}
+use Rattle.lgm_script.specs.declared.grammar.command.Command.{Command}
+use Rattle.lgm_script.specs.declared.grammar.command.Command.TheVariants as requests
 use Rattle.lgm_script.specs.Command.{command_of}
 use Rattle.lgm_script.specs.Lines.{IsFirstLine}
 

@@ -10,10 +10,10 @@ use Rattle.lgm_check.specs.declared.evidence.Sig.{Sig}
 use Rattle.lgm_check.specs.declared.evidence.Sig.TheVariants as sigs
 use Rattle.lgm_check.specs.declared.evidence.Funding.{Funding}
 use Rattle.lgm_check.specs.declared.evidence.Funding.TheVariants as fundings
-use Rattle.lgm_script.specs.declared.item.Item.{Item}
-use Rattle.lgm_script.specs.declared.item.Item.TheVariants.{Gossip, Close}
-use Rattle.lgm_script.specs.declared.item.ItemForm.{ItemForm}
-use Rattle.lgm_script.specs.declared.item.ItemForm.TheVariants as forms
+use Rattle.lgm_script.specs.declared.grammar.item.Item.{Item}
+use Rattle.lgm_script.specs.declared.grammar.item.Item.TheVariants.{Gossip, Close}
+use Rattle.lgm_script.specs.declared.grammar.item.ItemForm.{ItemForm}
+use Rattle.lgm_script.specs.declared.grammar.item.ItemForm.TheVariants as forms
 use Rattle.lgm_script.specs.Field.{◌>>=◌, fields_of, number_of, number_below, point_of}
 
 -- an even number of hexadecimal digits, at least two

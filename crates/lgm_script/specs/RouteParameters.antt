@@ -1,6 +1,6 @@
 -- Route parameters, as lines encode them.
 use Rattle.std.specs.Prelude.{ℕ, ◌^◌, List, [], ◌∷◌, Option, Some, None}
-use Rattle.lgm_script.specs.declared.route_parameters.RouteParameters.{RouteParameters}
+use Rattle.lgm_script.specs.declared.grammar.route_parameters.RouteParameters.{RouteParameters}
 use Rattle.lgm_script.specs.Field.{◌>>=◌, number_of, number_below, array_of, point_of}
 
 -- PAYER PAYEE MSAT EXPIRY SECRET

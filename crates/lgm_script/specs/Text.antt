@@ -2,8 +2,8 @@
 use Rattle.std.specs.Prelude.{ℕ, ◌/◌, ◌%◌, ◌^◌, List, ◌++◌, Option, Some, None, codes}
 use Rattle.std.specs.Fmt.{decimal}
 use Rattle.hex.specs.Hex.{encode_lower}
-use Rattle.lgm_script.specs.declared.text.Line.{Line}
-use Rattle.lgm_script.specs.declared.text.Line.TheVariants as lines
+use Rattle.lgm_script.specs.declared.output.text.Line.{Line}
+use Rattle.lgm_script.specs.declared.output.text.Line.TheVariants as lines
 
 -- N WORD
 abbrev pub word_line : ℕ → List ℕ → List ℕ

@@ -1,14 +1,18 @@
-//! Buffered text for a sink.
+//! Output: the text of answers, buffered for a sink.
 
 ghost use Rattle.std.specs.Prelude.{◌≡◌, ◌<◌, [], length, OnOk, MatchResult};
 ghost use Rattle.lgm_script.specs.Output.{told_by, Tells, TellsPart, Writes};
 ghost use Rattle.lgm_script.specs.Text.{line_text, message_behind};
 ghost use Rattle.lgm_script.specs.declared.output.SendFault.TheVariants.{NoMemory};
 
-use crate::device::{Failed, Sink, write_all};
-use crate::line_numbers::LineNumbers;
-use crate::text::{Lead, Line, append_line, append_message};
+mod line_numbers;
+mod text;
+
+use crate::devices::{Failed, Sink, write_all};
+use line_numbers::LineNumbers;
 use std::alloc::AllocError;
+pub use text::{Lead, Line};
+use text::{append_line, append_message};
 use thiserror::Error;
 
 /// The number of bytes that are buffered before they are written.
