@@ -1,8 +1,8 @@
 -- Scripts that end since a line can't be read.
 use Rattle.std.proofs.Common.{◌≡◌, ℕ, ◌<◌, Option, Some, None, Result, Err, refl, sym, ap, ◌∙◌, arith}
 use Rattle.std.specs.Prelude.{◌≢◌}
-use Rattle.lgm_script.specs.declared.read.LineFault.{LineFault}
-use Rattle.lgm_script.specs.declared.read.LineFault.TheVariants as lines
+use Rattle.lgm_script.specs.declared.input.read.LineFault.{LineFault}
+use Rattle.lgm_script.specs.declared.input.read.LineFault.TheVariants as lines
 use Rattle.lgm_answers.specs.declared.run_fault.RunFault.{RunFault}
 use Rattle.lgm_answers.specs.declared.run_fault.RunFault.TheVariants as faults
 use Rattle.lgm_answers.specs.Faults.{line_fault}

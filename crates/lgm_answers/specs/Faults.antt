@@ -1,8 +1,8 @@
 -- Why a script isn't answered to its end, from what its lines met.
 use Rattle.lgm_script.specs.declared.output.SendFault.{SendFault}
 use Rattle.lgm_script.specs.declared.output.SendFault.TheVariants as sending
-use Rattle.lgm_script.specs.declared.read.LineFault.{LineFault}
-use Rattle.lgm_script.specs.declared.read.LineFault.TheVariants as lines
+use Rattle.lgm_script.specs.declared.input.read.LineFault.{LineFault}
+use Rattle.lgm_script.specs.declared.input.read.LineFault.TheVariants as lines
 use Rattle.lgm_answers.specs.declared.run_fault.RunFault.{RunFault}
 use Rattle.lgm_answers.specs.declared.run_fault.RunFault.TheVariants as faults
 

@@ -10,8 +10,8 @@ use Rattle.lgm_store.specs.declared.op.Op.{Op}
 use Rattle.lgm_store.specs.Rows.{Rows}
 use Rattle.lgm_store.specs.Admission.{admitted, admitted_close}
 use Rattle.lgm_store.specs.History.{fold}
-use Rattle.lgm_script.specs.declared.item.Item.{Item}
-use Rattle.lgm_script.specs.declared.item.Item.TheVariants.{Gossip, Close}
+use Rattle.lgm_script.specs.declared.grammar.item.Item.{Item}
+use Rattle.lgm_script.specs.declared.grammar.item.Item.TheVariants.{Gossip, Close}
 
 -- the operation of an item that a map of these rows accepts, or the refusal
 unfoldable pub outcome_of : ChainHash → Rows → Item → Result Op Refusal

@@ -7,9 +7,9 @@ use Rattle.lgm_wire.specs.declared.chain_hash.ChainHash.{ChainHash}
 use Rattle.lgm_store.specs.Rows.{Rows}
 use Rattle.lgm_store.specs.History.{fold}
 use Rattle.lgm_query.specs.declared.filter.Filter.{Filter}
-use Rattle.lgm_script.specs.declared.item.Item.{Item}
-use Rattle.lgm_script.specs.declared.command.Command.{Command}
-use Rattle.lgm_script.specs.declared.command.Command.TheVariants as requests
+use Rattle.lgm_script.specs.declared.grammar.item.Item.{Item}
+use Rattle.lgm_script.specs.declared.grammar.command.Command.{Command}
+use Rattle.lgm_script.specs.declared.grammar.command.Command.TheVariants as requests
 use Rattle.lgm_script.specs.Lines.{lines_of}
 use Rattle.lgm_script.specs.Command.{command_of, item_in}
 use Rattle.lgm_script.specs.Text.{word_line}

@@ -34,7 +34,7 @@ impl<'a> Model for Batch<'a> {
 }
 
 impl<'a> Batch<'a> {
-    /// No messages. The only error is out of memory.
+    /// No messages.
     pub(crate) fn new(alloc: Global) -> Result<Batch<'a>, AllocError>
         ensures { IfOk result (λ batch. batch ≡ []) }
     {

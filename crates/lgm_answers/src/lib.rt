@@ -3,6 +3,8 @@
 //! An [`Answer`] is what is found for a line before its turn: the reply to a query, a peer's filter, the route of a
 //! payment. What scripts share, whether they are answered line by line or with a map that grows: outcomes of items,
 //! texts of answers, and why a script isn't answered to its end ([`RunFault`]).
+//!
+//! Where a public call's error is `AllocError`, memory ran out, and nothing has changed.
 #![tactic(auto)]
 
 mod answer;

@@ -1,4 +1,4 @@
-//! A map with its view, published by one writer to readers on other threads.
+//! A map with its view, published by one writer, its pen, to readers on other threads, its eyes.
 //!
 //! A [`Pen`] appends operations and publishes all pending ones atomically. An [`Eye`] enters, and gets a [`Guard`] with
 //! the map published last, and its view. No reader waits for the writer or for another reader; when the writer

@@ -54,14 +54,14 @@ pub const MAX_READERS: usize = 64;
 ///
 /// The errors are out of memory, and `Places` if an eye got no place at the table. There are as many places as eyes, so
 /// `Places` doesn't occur, which is tested and not proved.
-pub fn board<R: Wait + RandomSource>(
-    rt: &R,
+pub fn board<Rt: Wait + RandomSource>(
+    rt: &Rt,
     alloc: Global,
     readers: usize,
     known: &Known,
 ) -> Result<(Pen, Vec<Eye>), PublishFault>
     requires some { 1 ≤ readers }
-    requires few { readers ≤ MAX_READERS }
+    requires few { readers ≤ 64 }
     ensures published { IfOk result (λ made. made.0.published ≡ []) }
     ensures pending { IfOk result (λ made. made.0.pending ≡ []) }
     ensures count { IfOk result (λ made. length made.1.items ≡ readers) }

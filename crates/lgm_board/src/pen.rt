@@ -110,7 +110,7 @@ impl Pen {
     /// publication.
     ///
     /// On an error the published and the pending operations are unchanged; the next call publishes them.
-    pub fn publish<R: Wait>(&mut self, rt: &R) -> Result<(), NoMemory>
+    pub fn publish<Rt: Wait>(&mut self, rt: &Rt) -> Result<(), NoMemory>
         ensures board { self.new.board ≡ self.old.board }
         ensures published { MatchResult result (λ _. self.new.published
             ≡ self.old.published ++ self.old.pending) (λ _. self.new.published ≡ self.old.published) }
@@ -127,7 +127,7 @@ impl Pen {
         replace_with(
             &mut self.writer,
             rt,
-            |writer: Sides, rt: &R| -> (Sides, Result<(), NoMemory>)
+            |writer: Sides, rt: &Rt| -> (Sides, Result<(), NoMemory>)
                 requires complete { IsComplete writer.desk.shown.value.told
                     (drop writer.behind writer.log.items) }
                 requires few { length (whole writer.desk.shown.value.told
@@ -155,7 +155,7 @@ impl Pen {
     }
 
     /// Ends the board: eyes can't enter any more. Pending operations are dropped. Waits for the guards.
-    pub fn end<R: Wait>(self, rt: &R) {
+    pub fn end<Rt: Wait>(self, rt: &Rt) {
         let Pen {
             writer,
             head: _head,

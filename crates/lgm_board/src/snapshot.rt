@@ -70,7 +70,7 @@ impl Snapshot {
         })
     }
 
-    /// The map.
+    /// The map that its operations made.
     pub(crate) fn map(&self) -> &Map
         ensures { result.now ≡ self.now.rows }
     {
@@ -95,8 +95,8 @@ impl Snapshot {
         &self.told
     }
 
-    /// Applies an operation to the map and its view, which is built anew before if it numbers too many points. Beyond the
-    /// limit, which is never reached, it does nothing. The only error is out of memory, which leaves the map unchanged.
+    /// Applies an operation to the map and its view, which is built anew before if it numbers too many points. Beyond
+    /// the limit, which is never reached, it does nothing. Out of memory leaves the map unchanged.
     fn absorb(&mut self, op: &Op) -> Result<(), AllocError>
         ensures ok { OnOk result (self.new ≡ after_op self.old op.now) }
         ensures err { OnErr result (self.new ≡ self.old) }

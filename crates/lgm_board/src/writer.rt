@@ -47,7 +47,7 @@ pub(crate) fn reach(writer: &mut Sides, told: Told) -> Result<(), NoMemory>
 }
 
 /// Publishes all pending operations.
-pub(crate) fn publish_all<R: Wait>(rt: &R, writer: Sides) -> (Sides, Result<(), NoMemory>)
+pub(crate) fn publish_all<Rt: Wait>(rt: &Rt, writer: Sides) -> (Sides, Result<(), NoMemory>)
     requires complete { IsComplete writer.desk.shown.value.told (drop writer.behind writer.log.items) }
     requires few { length (whole writer.desk.shown.value.told (drop writer.behind writer.log.items)).ops
         ≤ MAX_OPERATIONS }
@@ -56,7 +56,7 @@ pub(crate) fn publish_all<R: Wait>(rt: &R, writer: Sides) -> (Sides, Result<(), 
     ensures known { result.0.desk.shown.value.known ≡ writer.desk.shown.value.known }
     ensures seen { IfOk result.1 (λ _. last_of result.0.desk.place ≡ Some result.0.desk.shown.value) }
 {
-    let (next, done) = writer.publish_as::<Seeing, R>(rt);
+    let (next, done) = writer.publish_as::<Seeing, Rt>(rt);
     match done {
         Ok(()) => (next, Ok(())),
         Err(_) => (next, Err(NoMemory)),

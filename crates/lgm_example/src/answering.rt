@@ -23,7 +23,6 @@ pub struct Tally {
 }
 
 /// What the payer A sends so that D receives 1,000,000 msat, on the map that a guard shows; none if there is no route.
-/// The only error is out of memory.
 fn find(alloc: Global, guard: &Guard) -> Result<Option<u64>, AllocError> {
     let request = Request {
         payer: point(10),

@@ -2,6 +2,8 @@
 //!
 //! [`taking`] is the writer's side, [`answering`] a reader's, and [`messages`] makes the gossip, which a node would get
 //! from its peers. [`retrying`] is a reader's payment that fails at first, and is tried again. The page `docs/readers.md` explains the calls.
+//!
+//! Where an error is `AllocError`, memory ran out.
 #![tactic(auto)]
 
 mod answering;
@@ -30,7 +32,7 @@ const CHANGES: u32 = 50;
 const PAYMENTS: u32 = 1_000;
 
 /// Takes the channels 1 of A with B and 2 of B with D, and 3 of A with C and 4 of C with D, and publishes them.
-fn open<R: Wait>(rt: &R, alloc: Global, taker: &mut Taker, pen: &mut Pen) -> bool {
+fn open<Rt: Wait>(rt: &Rt, alloc: Global, taker: &mut Taker, pen: &mut Pen) -> bool {
     for message in [
         announcement(alloc, 1, 10, 11),
         update(alloc, 1, 10, 1, 0),
@@ -52,7 +54,7 @@ fn open<R: Wait>(rt: &R, alloc: Global, taker: &mut Taker, pen: &mut Pen) -> boo
 }
 
 /// Changes the fee of the second channel repeatedly, and publishes each change.
-fn change<R: Wait>(rt: &R, alloc: Global, taker: &mut Taker, pen: &mut Pen) -> bool {
+fn change<Rt: Wait>(rt: &Rt, alloc: Global, taker: &mut Taker, pen: &mut Pen) -> bool {
     for turn in 1..=CHANGES {
         let Ok((bytes, evidence)) = update(alloc, 2, 11, 1 + turn, 1_000 + turn) else {
             return false;
@@ -70,8 +72,8 @@ fn change<R: Wait>(rt: &R, alloc: Global, taker: &mut Taker, pen: &mut Pen) -> b
 type Seen = ((Eye, Tally), (Eye, Tally));
 
 /// Runs both readers while the fee changes.
-fn serve<R: Threads + Wait + Sync>(
-    rt: &R,
+fn serve<Rt: Threads + Wait + Sync>(
+    rt: &Rt,
     alloc: Global,
     taker: &mut Taker,
     pen: &mut Pen,
@@ -95,8 +97,8 @@ fn serve<R: Threads + Wait + Sync>(
 
 /// Runs the server. Returns what the readers have observed, what one of them observes after the last publication, and how
 /// its payment ends.
-fn run<R: Threads + Wait + Sync>(
-    rt: &R,
+fn run<Rt: Threads + Wait + Sync>(
+    rt: &Rt,
     alloc: Global,
     taker: &mut Taker,
     pen: &mut Pen,

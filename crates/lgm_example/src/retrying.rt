@@ -2,7 +2,7 @@
 //! each try teaches of others are estimates.
 
 use crate::messages::{point, scid};
-use lgm_graph::{Estimates, ExtraEdge, Hop, Overlay, Route};
+use lgm_graph::{Estimates, ExtraEdge, Hop, Overlay, Route, RoutingGraph};
 use lgm_publish::{Eye, Guard};
 use lgm_route::{
     Found, Preferences, Request, RouteFault, RouteLimits, Search, SearchBudget, SearchFault,

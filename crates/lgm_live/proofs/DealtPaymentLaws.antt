@@ -6,7 +6,7 @@ use Rattle.std.proofs.Math.Nat.{mod-lt, zero-div, zero-mod}
 use Rattle.std.proofs.lemmas.Nat.{div-add-mod', div-mul-add, mod-mul-add}
 use Rattle.std.proofs.lemmas.Bool.{cases_lt}
 use Rattle.std.proofs.lemmas.Bool.Decides.{eqb_tells}
-use Rattle.lgm_script.specs.declared.route_parameters.RouteParameters.{RouteParameters}
+use Rattle.lgm_script.specs.declared.grammar.route_parameters.RouteParameters.{RouteParameters}
 use Rattle.lgm_live.specs.ParsedScript.{dealt_from}
 
 -- how many of the first n payments are one worker's

@@ -9,10 +9,10 @@ use Rattle.std.proofs.lemmas.List.Concat.{flat_map-append}
 use Rattle.lgm_wire.specs.declared.chain_hash.ChainHash.{ChainHash}
 use Rattle.lgm_check.specs.declared.refusal.Refusal.{Refusal}
 use Rattle.lgm_store.specs.declared.op.Op.{Op}
-use Rattle.lgm_store.specs.Rows.{empty}
+use Rattle.lgm_store.specs.Rows.{Rows, empty}
 use Rattle.lgm_store.specs.History.{fold, absorbed}
 use Rattle.lgm_store.proofs.Histories.{fold_from-push}
-use Rattle.lgm_script.specs.declared.item.Item.{Item}
+use Rattle.lgm_script.specs.declared.grammar.item.Item.{Item}
 use Rattle.lgm_answers.specs.Outcomes.{outcome_of, with_outcome, outcomes_behind, outcomes, history_of}
 use Rattle.lgm_answers.proofs.Outcomes.{outcome_joins}
 use Rattle.lgm_live.specs.declared.writer.WriterResult.{WriterResult}
@@ -33,14 +33,14 @@ outcomes_behind-push chain history (i ∷ items) item =
 -- the outcome of one more item comes after the others
 outcomes-push : (chain : ChainHash) (items : List Item) (item : Item) (written : WriterResult)
     (outcome : Result Op Refusal) → IsWritten chain items written
-    → outcome_of chain written.map.value item ≡ outcome
+    → outcome_of chain (fold written.ops.items) item ≡ outcome
     → outcomes chain (items ++ item ∷ []) ≡ outcomes chain items ++ outcome ∷ []
 outcomes-push chain items item written outcome w is =
-    outcomes_behind-push chain [] items item ∙ ap (λ o. outcomes chain items ++ o ∷ []) (ap (λ rows. outcome_of chain rows item) (sym w.rows) ∙ is)
+    outcomes_behind-push chain [] items item ∙ ap (λ o. outcomes chain items ++ o ∷ []) (ap (λ rows. outcome_of chain rows item) (ap fold (sym w.ops)) ∙ is)
 
 history-push : (chain : ChainHash) (items : List Item) (item : Item) (written : WriterResult)
     (outcome : Result Op Refusal) → IsWritten chain items written
-    → outcome_of chain written.map.value item ≡ outcome
+    → outcome_of chain (fold written.ops.items) item ≡ outcome
     → history_of chain (items ++ item ∷ []) ≡ history_of chain items ++ cons_option (result_ok outcome) []
 history-push chain items item written outcome w is =
     ap (filter_map result_ok) (outcomes-push chain items item written outcome w is)
@@ -48,34 +48,36 @@ history-push chain items item written outcome w is =
 
 refusals-push : (chain : ChainHash) (items : List Item) (item : Item) (written : WriterResult)
     (outcome : Result Op Refusal) → IsWritten chain items written
-    → outcome_of chain written.map.value item ≡ outcome
+    → outcome_of chain (fold written.ops.items) item ≡ outcome
     → written.outcomes.items ++ result_err outcome ∷ [] ≡ map result_err (outcomes chain (items ++ item ∷ []))
 refusals-push chain items item written outcome w is =
     ap (λ os. os ++ result_err outcome ∷ []) w.outcomes ∙ sym (map-append result_err (outcomes chain items) (outcome ∷ []))
     ∙ ap (map result_err) (sym (outcomes-push chain items item written outcome w is))
 
+-- the map with one more operation is that of these operations
+pub fold_push : (rows next : Rows) (old new : List Op) (op : Op) → next ≡ absorbed rows op → rows ≡ fold old → new ≡ old ++ op ∷ [] → next ≡ fold new
+fold_push rows next old new op becomes is more =
+    becomes ∙ ap (λ (rows : Rows). absorbed rows op) is ∙ sym (fold_from-push empty old op) ∙ ap fold (sym more)
+
 -- an item that is accepted
 pub accepted_written : (chain : ChainHash) (items : List Item) (item : Item) (old new : WriterResult) (op : Op)
-    → outcome_of chain old.map.value item ≡ Ok op → new.map.value ≡ absorbed old.map.value op
-    → new.outcomes.items ≡ old.outcomes.items ++ None ∷ [] → new.ops.items ≡ old.ops.items ++ op ∷ []
+    → outcome_of chain (fold old.ops.items) item ≡ Ok op → new.outcomes.items ≡ old.outcomes.items ++ None ∷ [] → new.ops.items ≡ old.ops.items ++ op ∷ []
     → IsWritten chain items old → IsWritten chain (items ++ item ∷ []) new
-accepted_written chain items item old new op is map_is outcomes_are ops_are w =
+accepted_written chain items item old new op is outcomes_are ops_are w =
     let history = history-push chain items item old (Ok op) w is in
     record {
-      rows = map_is ∙ ap (λ rows. absorbed rows op) w.rows ∙ sym (fold_from-push empty (history_of chain items) op) ∙ ap fold (sym history);
       outcomes = outcomes_are ∙ refusals-push chain items item old (Ok op) w is;
       ops = ops_are ∙ ap (λ ops. ops ++ op ∷ []) w.ops ∙ sym history;
     }
 
 -- an item that is refused
 pub refused_written : (chain : ChainHash) (items : List Item) (item : Item) (old new : WriterResult)
-    (refusal : Refusal) → outcome_of chain old.map.value item ≡ Err refusal → new.map.value ≡ old.map.value
+    (refusal : Refusal) → outcome_of chain (fold old.ops.items) item ≡ Err refusal
     → new.outcomes.items ≡ old.outcomes.items ++ Some refusal ∷ [] → new.ops.items ≡ old.ops.items
     → IsWritten chain items old → IsWritten chain (items ++ item ∷ []) new
-refused_written chain items item old new refusal is map_is outcomes_are ops_are w =
+refused_written chain items item old new refusal is outcomes_are ops_are w =
     let history = history-push chain items item old (Err refusal) w is ∙ append-nil (history_of chain items) in
     record {
-      rows = map_is ∙ w.rows ∙ ap fold (sym history);
       outcomes = outcomes_are ∙ refusals-push chain items item old (Err refusal) w is;
       ops = ops_are ∙ w.ops ∙ sym history;
     }

@@ -1,11 +1,11 @@
 -- How reading a script continues and ends.
 use Rattle.std.proofs.Common.{◌≡◌, ℕ, ◌+◌, ◌<◌, ◌≤◌, List, [], ◌∷◌, ◌++◌, length, take, drop, Result, Ok, Err, refl, sym, subst, ◌∙◌}
 use Rattle.std.specs.Prelude.{◌≢◌, IfSome, IfOk}
-use Rattle.lgm_script.specs.declared.line_reader.TheConstants.{MAX_LINE}
+use Rattle.lgm_script.specs.declared.input.line_reader.TheConstants.{MAX_LINE}
 use Rattle.lgm_script.specs.declared.output.SendFault.TheVariants.{Write as SendWrite}
-use Rattle.lgm_script.specs.declared.read.LineFault.{LineFault}
-use Rattle.lgm_script.specs.declared.read.LineFault.TheVariants as lines
-use Rattle.lgm_script.specs.declared.command.Command.{Command}
+use Rattle.lgm_script.specs.declared.input.read.LineFault.{LineFault}
+use Rattle.lgm_script.specs.declared.input.read.LineFault.TheVariants as lines
+use Rattle.lgm_script.specs.declared.grammar.command.Command.{Command}
 use Rattle.lgm_script.specs.Device.{Input, IsAtEnd}
 use Rattle.lgm_script.specs.Lines.{ahead, IsFirstLine, IsLongerThan}
 use Rattle.lgm_script.specs.Output.{OutputState, Tells, TellsPart}
@@ -17,7 +17,7 @@ use Rattle.lgm_answers.specs.declared.run_fault.RunFault.TheVariants as faults
 use Rattle.lgm_answers.specs.Faults.{line_fault}
 use Rattle.lgm_live.specs.Running.{HasMoreLines}
 use Rattle.lgm_live.specs.inner.Gathered.{Gathered}
-use Rattle.lgm_live.specs.inner.Reading.{HasRead, IsNoted, with_lines}
+use Rattle.lgm_live.specs.inner.Reading.{HasRead, AreAdded, with_lines}
 use Rattle.lgm_live.proofs.WholeLines.{SoFar, step, ends, many, long, silent, silent_fault}
 
 abbrev ended : RunFault → Result (Unit {0}) RunFault
@@ -119,14 +119,14 @@ module _ {source : Input} {output : OutputState} {asked : List Command} {buffere
   -- all lines were read
   pub all_read : (old new : Gathered) → new ≡ with_lines old asked → length asked ≤ MAX_LINES
       → IsAtEnd (ahead buffered mid.left)
-      → HasRead source mid output between (λ _. IsNoted source.left
+      → HasRead source mid output between (λ _. AreAdded source.left
       old new) (Ok (tt {0}))
-  all_read old new noted few end =
-      has_ended (λ _. IsNoted source.left old new) (Ok (tt {0}))
+  all_read old new added few end =
+      has_ended (λ _. AreAdded source.left old new) (Ok (tt {0}))
       (record {
         asked = asked;
         few = few;
-        noted = noted;
+        added = added;
         whole = ends source.left asked (ahead buffered mid.left) read_to.so_far end few;
       })
       (λ same. absurd cc) (λ same. absurd cc) (λ same. absurd cc) (λ same. absurd cc)

@@ -7,7 +7,7 @@ use Rattle.logbook.specs.Pages.{Book}
 use Rattle.lgm_par.proofs.PlacewiseLaws.{zip_weaker}
 use Rattle.lgm_wire.specs.declared.chain_hash.ChainHash.{ChainHash}
 use Rattle.lgm_check.specs.declared.refusal.Refusal.{Refusal}
-use Rattle.lgm_script.specs.declared.item.Item.{Item}
+use Rattle.lgm_script.specs.declared.grammar.item.Item.{Item}
 use Rattle.lgm_store.specs.declared.op.Op.{Op}
 use Rattle.lgm_route.specs.declared.request.Request.{Request}
 use Rattle.lgm_board.specs.Handles.{Sight}

@@ -5,12 +5,12 @@ use Rattle.std.proofs.lemmas.List.{append-nil, length-set, length-replicate, get
 use Rattle.std.proofs.lemmas.List.FromFn.{fill_by_all}
 use Rattle.std.proofs.lemmas.Bool.Decides.{eqb_tells}
 use Rattle.lgm_route.specs.declared.request.Request.{Request as RouteRequest}
-use Rattle.lgm_script.specs.declared.route_parameters.RouteParameters.{RouteParameters}
-use Rattle.lgm_script.specs.declared.command.Command.{Command}
-use Rattle.lgm_script.specs.declared.command.Command.TheVariants as requests
+use Rattle.lgm_script.specs.declared.grammar.route_parameters.RouteParameters.{RouteParameters}
+use Rattle.lgm_script.specs.declared.grammar.command.Command.{Command}
+use Rattle.lgm_script.specs.declared.grammar.command.Command.TheVariants as requests
 use Rattle.lgm_answers.specs.Routing.{asked_route}
 use Rattle.lgm_live.specs.ParsedScript.{batches_behind, payments_of, dealt_from, list_for}
-use Rattle.lgm_live.specs.inner.Gathered.{Gathered, line_answer_of, given, with_request, with_line, IsParsed}
+use Rattle.lgm_live.specs.inner.Gathered.{Gathered, line_answer_of, appended_to, with_request, with_line, IsParsed}
 use Rattle.lgm_live.specs.inner.Reading.{with_lines}
 use Rattle.lgm_live.proofs.DealtPaymentLaws.{dealt_here, dealt_there}
 
@@ -64,25 +64,25 @@ batches_are so_far (request ∷ asked) = batches_are (with_line so_far request) 
 abbrev dealt_on : ℕ → ℕ → ℕ → List RouteParameters → List RouteRequest
 dealt_on workers worker place payments = map asked_route (dealt_from workers worker place payments)
 
-given_own : (lists : List (List RouteRequest)) (worker own : ℕ) (request : RouteRequest)
+appended_own : (lists : List (List RouteRequest)) (worker own : ℕ) (request : RouteRequest)
     (others : List RouteRequest) → worker < length lists → own ≡ worker
-    → get_or (given lists own request) worker [] ++ others ≡ get_or lists worker [] ++ (request ∷ others)
-given_own lists worker own request others below is =
+    → get_or (appended_to lists own request) worker [] ++ others ≡ get_or lists worker [] ++ (request ∷ others)
+appended_own lists worker own request others below is =
     ap (λ (l : List RouteRequest). l ++ others)
-    (ap (λ (o : ℕ). get_or (given lists o request) worker []) is ∙ get_or-set_same lists worker (get_or lists worker [] ++ request ∷ []) [] below)
+    (ap (λ (o : ℕ). get_or (appended_to lists o request) worker []) is ∙ get_or-set_same lists worker (get_or lists worker [] ++ request ∷ []) [] below)
     ∙ append_assoc (get_or lists worker []) (request ∷ []) others
 
 lists_with : (so_far : Gathered) (payment : RouteParameters) (payments : List RouteParameters) (workers worker : ℕ) → length so_far.lists ≡ workers → worker < workers
-    → get_or (given so_far.lists (so_far.payments % length so_far.lists) (asked_route payment)) worker []
+    → get_or (appended_to so_far.lists (so_far.payments % length so_far.lists) (asked_route payment)) worker []
     ++ dealt_on workers worker (so_far.payments + 1) payments
     ≡ get_or so_far.lists worker [] ++ dealt_on workers worker so_far.payments (payment ∷ payments)
 lists_with so_far payment payments workers worker many below =
     let own = so_far.payments % workers in
     let same : so_far.payments % length so_far.lists ≡ own = ap (λ w. so_far.payments % w) many in
     let others = dealt_on workers worker (so_far.payments + 1) payments in
-    ap (λ o. get_or (given so_far.lists o (asked_route payment)) worker [] ++ others) same
+    ap (λ o. get_or (appended_to so_far.lists o (asked_route payment)) worker [] ++ others) same
     ∙ elim (eqb_tells own worker) [
-      | inl is ↦ given_own so_far.lists worker own (asked_route payment) others (omega (arith, many, below)) is.1
+      | inl is ↦ appended_own so_far.lists worker own (asked_route payment) others (omega (arith, many, below)) is.1
           ∙ ap (λ ps. get_or so_far.lists worker [] ++ map asked_route ps) (sym (dealt_here workers worker so_far.payments payment payments is.1))
       | inr not ↦ ap (λ (l : List RouteRequest). l ++ others) (get_or-set_other so_far.lists own worker _ [] (λ e. not.1 (sym e)))
           ∙ ap (λ ps. get_or so_far.lists worker [] ++ map asked_route ps) (sym (dealt_there workers worker so_far.payments payment payments not.1))

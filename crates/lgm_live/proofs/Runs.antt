@@ -3,8 +3,8 @@ use Rattle.std.proofs.Common.{◌≡◌, ℕ, ◌<◌, List, length, map, Option
 use Rattle.std.specs.Prelude.{IfSome}
 use Rattle.lgm_wire.specs.declared.chain_hash.ChainHash.{ChainHash}
 use Rattle.lgm_route.specs.declared.request.Request.{Request as RouteRequest}
-use Rattle.lgm_script.specs.declared.item.Item.{Item}
-use Rattle.lgm_script.specs.declared.command.Command.{Command}
+use Rattle.lgm_script.specs.declared.grammar.item.Item.{Item}
+use Rattle.lgm_script.specs.declared.grammar.command.Command.{Command}
 use Rattle.lgm_script.specs.Device.{Appends, AppendsSome}
 use Rattle.lgm_live.specs.declared.report.LiveReport.{LiveReport}
 use Rattle.lgm_live.specs.declared.parsed_script.LineAnswer.{LineAnswer}
@@ -12,9 +12,10 @@ use Rattle.lgm_live.specs.ParsedScript.{batches_of, payments_of}
 use Rattle.lgm_live.specs.inner.Gathered.{Gathered, line_answer_of, IsParsed}
 use Rattle.lgm_live.specs.inner.Reading.{IsAsked}
 use Rattle.lgm_live.specs.Running.{IsReport, IsReportOn, IsToldWhole, IsToldInPart}
-use Rattle.lgm_live.specs.inner.Telling.{slots_before, AreThere}
+use Rattle.lgm_live.specs.inner.Telling.{slots_before, AreThere, AreFreshThere}
+use Rattle.lgm_live.specs.Freshness.{AreFresh}
 use Rattle.lgm_live.specs.Text.{live_text, AreSame}
-use Rattle.lgm_live.proofs.Slots.{text_is, all_there}
+use Rattle.lgm_live.proofs.Slots.{text_is, all_there, all_fresh}
 use Rattle.lgm_live.proofs.Scripts.{are_same, is_full}
 
 -- a report on a parsed script, with an answer for each command
@@ -50,6 +51,10 @@ module _ {chain : ChainHash} {known : Option (List ℕ)} {workers : ℕ} {asked 
       all_there workers known report asked all (is_full chain known workers asked report is.is_report)
       same_answers is.line_answers
 
+  -- each payment is answered on a map with the batches above it
+  are_fresh : AreFreshThere workers report all (length all) → AreFresh workers report asked
+  are_fresh fresh = all_fresh workers report asked all is.line_answers fresh
+
   -- the text of all line answers is the text of the script
   as_text : (Told : Option (List ℕ) → List ℕ → Type 0) (old mid : Option (List ℕ)) → mid ≡ old
       → Told mid (slots_before workers report all (length all))
@@ -59,26 +64,30 @@ module _ {chain : ChainHash} {known : Option (List ℕ)} {workers : ℕ} {asked 
       (subst (Told mid) (sym (text_is workers known report asked all same_answers is.line_answers)) told)
 
   pub whole : (script old mid new : Option (List ℕ)) → IfSome script (IsAsked asked) → mid ≡ old
+      → AreFreshThere workers report all (length all)
       → Appends mid new (slots_before workers report all (length all))
       → IfSome script (IsToldWhole chain known workers (Appends old new) report)
-  whole None old mid new read same told = tt
-  whole (Some script) old mid new read same told = record {
+  whole None old mid new read same fresh told = tt
+  whole (Some script) old mid new read same fresh told = record {
     limits = read.limits;
     is_report = subst (λ rs. IsReportOn chain known workers rs report) read.all is.is_report;
     text =
         subst (λ rs. Appends old new (live_text workers known report rs)) read.all
         (as_text (λ o. Appends o new) old mid same told);
     same = subst (λ rs. AreSame workers known report (payments_of rs)) read.all same_answers;
+    fresh = subst (AreFresh workers report) read.all (are_fresh fresh);
   }
 
   pub in_part : (script old mid new : Option (List ℕ)) → IfSome script (IsAsked asked) → mid ≡ old
+      → AreFreshThere workers report all (length all)
       → AppendsSome mid new (slots_before workers report all (length all))
       → IfSome script (IsToldInPart chain known workers (AppendsSome old new))
-  in_part None old mid new read same told = tt
-  in_part (Some script) old mid new read same told = record {
+  in_part None old mid new read same fresh told = tt
+  in_part (Some script) old mid new read same fresh told = record {
     limits = read.limits;
     report = report;
     is_report = subst (λ rs. IsReportOn chain known workers rs report) read.all is.is_report;
+    fresh = subst (AreFresh workers report) read.all (are_fresh fresh);
     text =
         subst (λ rs. AppendsSome old new (live_text workers known report rs)) read.all
         (as_text (λ o. AppendsSome o new) old mid same told);

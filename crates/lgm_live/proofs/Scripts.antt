@@ -21,10 +21,10 @@ use Rattle.lgm_route.specs.declared.request.Request.{Request as RouteRequest}
 use Rattle.lgm_graph.specs.declared.route.Hop.{Hop}
 use Rattle.lgm_route.specs.declared.fault.RouteFault.{RouteFault}
 use Rattle.lgm_route.specs.Words.{route_word}
-use Rattle.lgm_script.specs.declared.item.Item.{Item}
-use Rattle.lgm_script.specs.declared.route_parameters.RouteParameters.{RouteParameters}
-use Rattle.lgm_script.specs.declared.command.Command.{Command}
-use Rattle.lgm_script.specs.declared.command.Command.TheVariants as requests
+use Rattle.lgm_script.specs.declared.grammar.item.Item.{Item}
+use Rattle.lgm_script.specs.declared.grammar.route_parameters.RouteParameters.{RouteParameters}
+use Rattle.lgm_script.specs.declared.grammar.command.Command.{Command}
+use Rattle.lgm_script.specs.declared.grammar.command.Command.TheVariants as requests
 use Rattle.lgm_answers.specs.Outcomes.{outcome_of, with_outcome, outcomes_behind, outcomes}
 use Rattle.lgm_answers.specs.Routing.{asked_route}
 use Rattle.lgm_script.specs.Command.{item_in}

@@ -1,9 +1,10 @@
 -- The texts of line answers, one after the other.
-use Rattle.std.proofs.Common.{◌≡◌, ℕ, zero, suc, ◌+◌, ◌-◌, ◌<◌, Bool, cond, List, [], ◌∷◌, ◌++◌, length, get_or}
+use Rattle.std.proofs.Common.{◌≡◌, inl, inr, ℕ, zero, suc, ◌+◌, ◌-◌, ◌<◌, Bool, cond, List, [], ◌∷◌, ◌++◌, length, get_or}
 use Rattle.std.proofs.Common.{take, codes, refl, sym, ap, subst, ◌∙◌, append_assoc, add-one, arith}
 use Rattle.std.specs.Prelude.{count_by}
 use Rattle.std.specs.Fmt.{decimal}
 use Rattle.std.proofs.lemmas.List.{append-nil, take_more}
+use Rattle.std.proofs.lemmas.Bool.{cases_lt}
 use Rattle.std.proofs.lemmas.List.Sums.{sum_by-append}
 use Rattle.lgm_script.specs.declared.output.SendFault.{SendFault}
 use Rattle.lgm_script.specs.Output.{OutputState, Tells, TellsPart}
@@ -12,8 +13,9 @@ use Rattle.lgm_script.proofs.WrittenTextLaws.{tells_both, tells_part_behind, tel
 use Rattle.lgm_live.specs.declared.report.LiveReport.{LiveReport}
 use Rattle.lgm_live.specs.declared.parsed_script.LineAnswer.{LineAnswer}
 use Rattle.lgm_live.specs.declared.parsed_script.LineAnswer.TheVariants as line_answers
-use Rattle.lgm_live.specs.declared.write_answers.ReportPlace.{ReportPlace}
+use Rattle.lgm_live.specs.declared.report_place.ReportPlace.{ReportPlace}
 use Rattle.lgm_live.specs.Text.{at_line}
+use Rattle.lgm_live.specs.inner.Telling.{IsFreshThere, AreFreshThere}
 use Rattle.lgm_live.specs.inner.Telling.{is_item, is_end, is_payment, place_behind, place_passed, slot_text, slots_before}
 
 -- ---- the line of a version
@@ -115,3 +117,16 @@ stops workers report all k old mid new fault below so_far part =
     subst (λ (t : List ℕ). TellsPart old new t fault)
     (sym (ap (λ (t : List ℕ). t ++ others.0) (text_more workers report all k)) ∙ sym others.1 ∙ ap (slots_before workers report all) end)
     (tells_part_more old new (slots_before workers report all k ++ text_at workers report all k) others.0 fault behind)
+
+-- ---- on which maps payments are answered
+
+-- and one line more
+pub one_more_fresh : (workers : ℕ) (report : LiveReport) (all : List LineAnswer) (n : ℕ)
+    → AreFreshThere workers report all n
+    → IsFreshThere workers report (place_behind (take n all)) (get_or all n line_answers.Quiet)
+    → AreFreshThere workers report all (n + 1)
+one_more_fresh workers report all n so_far here = λ k below. elim (cases_lt k n) [
+  | inl lt ↦ so_far k lt
+  | inr le ↦ let same : n ≡ k = omega (arith, below, le) in
+      subst (λ i. IsFreshThere workers report (place_behind (take i all)) (get_or all i line_answers.Quiet)) same here
+]

@@ -1,15 +1,15 @@
 -- The texts of commands, by their line answers.
 use Rattle.std.proofs.Common.{◌≡◌, ℕ, zero, suc, ◌+◌, ◌<◌, ◌≤◌, Bool, cond, List, [], ◌∷◌, ◌++◌, length, map}
 use Rattle.std.proofs.Common.{get_or, take, Option, Some, None, codes, refl, sym, ap, subst, ◌∙◌, arith}
-use Rattle.std.specs.Prelude.{is_some, count_by, slice_get}
+use Rattle.std.specs.Prelude.{is_some, IfSome, count_by, slice_get}
 use Rattle.std.specs.List.{filter_map, cons_option}
 use Rattle.std.proofs.lemmas.List.{length-map, take-map}
 use Rattle.std.proofs.lemmas.Option.{slice_get_within}
 use Rattle.std.proofs.Math.ListN.{get_or-map}
 use Rattle.std.proofs.lemmas.List.Sums.{sum_by-cons}
-use Rattle.lgm_script.specs.declared.route_parameters.RouteParameters.{RouteParameters}
-use Rattle.lgm_script.specs.declared.command.Command.{Command}
-use Rattle.lgm_script.specs.declared.command.Command.TheVariants as requests
+use Rattle.lgm_script.specs.declared.grammar.route_parameters.RouteParameters.{RouteParameters}
+use Rattle.lgm_script.specs.declared.grammar.command.Command.{Command}
+use Rattle.lgm_script.specs.declared.grammar.command.Command.TheVariants as requests
 use Rattle.lgm_answers.specs.Answer.{outcome_text, route_text}
 use Rattle.lgm_script.specs.Text.{commit_line}
 use Rattle.lgm_script.specs.Command.{item_in}
@@ -22,6 +22,8 @@ use Rattle.lgm_live.specs.ParsedScript.{payment_in, payments_of}
 use Rattle.lgm_live.specs.inner.Gathered.{line_answer_of}
 use Rattle.lgm_live.specs.Text.{answer_at, at_line, replay_word, payment_text, live_text_for, live_text_before, live_text, AreSame}
 use Rattle.lgm_live.specs.inner.Telling.{is_item, is_end, is_payment, place_behind, same_text, slot_text, slots_before, IsThere, AreThere}
+use Rattle.lgm_live.specs.inner.Telling.{IsFreshThere, AreFreshThere}
+use Rattle.lgm_live.specs.Freshness.{HasBatches, IsFresh, AreFresh}
 
 pub count_by-cons : {X : Type 0} (p : X → Bool) (x : X) (xs : List X) → count_by p (x ∷ xs) ≡ cond (p x) 1 0 + count_by p xs
 count_by-cons p x xs = sum_by-cons (λ y. cond (p y) 1 0) x xs
@@ -184,3 +186,24 @@ all_there workers known report asked all full same is = rw is (λ k below.
     subst (λ (before : List LineAnswer). IsThere workers report (place_behind before)
     (get_or (map line_answer_of asked) k line_answers.Quiet)) (sym (take-map line_answer_of k asked))
     (subst (IsThere workers report (place_behind (map line_answer_of (take k asked)))) (sym (get_or-map line_answer_of asked k requests.Quiet)) here))
+
+-- ---- on which maps payments are answered
+
+fresh_for : (workers : ℕ) (report : LiveReport) (before : List Command) (request : Command)
+    → IsFreshThere workers report (place_behind (map line_answer_of before)) (line_answer_of request)
+    → IsFresh workers report before request
+fresh_for workers report before (requests.Route payment) fresh =
+    subst (λ batches. IfSome (answer_at workers report.answers.items (length (payments_of before))) (HasBatches report batches)) (sym (commits_count before))
+    (subst (λ place. IfSome (answer_at workers report.answers.items place)
+    (HasBatches report (count_by is_end (map line_answer_of before)))) (sym (payments_count before)) fresh)
+fresh_for workers report before _ fresh = tt
+
+pub all_fresh : (workers : ℕ) (report : LiveReport) (asked : List Command) (all : List LineAnswer)
+    → all ≡ map line_answer_of asked → AreFreshThere workers report all (length all) → AreFresh workers report asked
+all_fresh workers report asked all is fresh = λ k below.
+    let within : k < length all = omega (arith, below, ap length is, length-map asked line_answer_of) in
+    let here = subst (λ all. IsFreshThere workers report (place_behind (take k all)) (get_or all k line_answers.Quiet)) is (fresh k within) in
+    fresh_for workers report (take k asked) (get_or asked k requests.Quiet)
+    (subst (IsFreshThere workers report (place_behind (map line_answer_of (take k asked)))) (get_or-map line_answer_of asked k requests.Quiet)
+    (subst (λ (before : List LineAnswer). IsFreshThere workers report (place_behind before)
+    (get_or (map line_answer_of asked) k line_answers.Quiet)) (take-map line_answer_of k asked) here))

@@ -5,10 +5,10 @@ use Rattle.std.specs.Prelude.{◌≢◌, IfSome}
 use Rattle.std.specs.List.{AllByRecursion}
 use Rattle.std.proofs.lemmas.List.{append-nil, length-append, length-drop, length-take, take_all, map_push, nil_from_length}
 use Rattle.std.proofs.lemmas.Option.{IfSome_then}
-use Rattle.lgm_script.specs.declared.line_reader.TheConstants.{MAX_LINE}
-use Rattle.lgm_script.specs.declared.command.Command.{Command}
-use Rattle.lgm_script.specs.declared.read.LineFault.{LineFault}
-use Rattle.lgm_script.specs.declared.read.LineFault.TheVariants as lines
+use Rattle.lgm_script.specs.declared.input.line_reader.TheConstants.{MAX_LINE}
+use Rattle.lgm_script.specs.declared.grammar.command.Command.{Command}
+use Rattle.lgm_script.specs.declared.input.read.LineFault.{LineFault}
+use Rattle.lgm_script.specs.declared.input.read.LineFault.TheVariants as lines
 use Rattle.lgm_script.specs.declared.output.SendFault.TheVariants.{Write as SendWrite}
 use Rattle.lgm_script.specs.Device.{IsAtEnd, Appends}
 use Rattle.lgm_script.specs.Lines.{lines_of, ahead, IsFirstLine, IsLongerThan}

@@ -1,7 +1,7 @@
 -- Where batches end.
 use Rattle.std.specs.Prelude.{ℕ, List, [], ◌∷◌, ◌++◌, length, flat_map}
 use Rattle.lgm_wire.specs.declared.chain_hash.ChainHash.{ChainHash}
-use Rattle.lgm_script.specs.declared.item.Item.{Item}
+use Rattle.lgm_script.specs.declared.grammar.item.Item.{Item}
 use Rattle.lgm_answers.specs.Outcomes.{history_of}
 
 -- the items of all batches, in order

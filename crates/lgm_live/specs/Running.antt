@@ -5,8 +5,8 @@ use Rattle.std.specs.Result.{result_err}
 use Rattle.lgm_wire.specs.declared.chain_hash.ChainHash.{ChainHash}
 use Rattle.lgm_route.specs.declared.request.Request.{Request as RouteRequest}
 use Rattle.lgm_answers.specs.Limits.{longest_line, most_lines}
-use Rattle.lgm_script.specs.declared.item.Item.{Item}
-use Rattle.lgm_script.specs.declared.command.Command.{Command}
+use Rattle.lgm_script.specs.declared.grammar.item.Item.{Item}
+use Rattle.lgm_script.specs.declared.grammar.command.Command.{Command}
 use Rattle.lgm_script.specs.Lines.{lines_of}
 use Rattle.lgm_answers.specs.Outcomes.{outcomes, history_of}
 use Rattle.lgm_answers.specs.Script.{commands_of}
@@ -19,6 +19,7 @@ use Rattle.lgm_live.specs.Answers.{AreAnsweredBy, NeverFall, IsAtEnd}
 use Rattle.lgm_live.specs.Batches.{items_of, ends_of}
 use Rattle.lgm_live.specs.ParsedScript.{batches_of, payments_of, lists_of}
 use Rattle.lgm_live.specs.Text.{live_text, AreSame}
+use Rattle.lgm_live.specs.Freshness.{AreFresh}
 
 -- the same fault as one of a script
 abbrev pub live_fault : LiveFault → RunFault
@@ -57,6 +58,7 @@ pub record IsToldWhole (chain : ChainHash) (known : Option (List ℕ)) (workers 
   pub is_report : IsReportOn chain known workers (commands_of script) report
   pub text : told (live_text workers known report (commands_of script))
   pub same : AreSame workers known report (payments_of (commands_of script))
+  pub fresh : AreFresh workers report (commands_of script)
 
 -- a prefix of the text of the whole script and of some report on it was written
 pub record IsToldInPart (chain : ChainHash) (known : Option (List ℕ)) (workers : ℕ)
@@ -64,6 +66,7 @@ pub record IsToldInPart (chain : ChainHash) (known : Option (List ℕ)) (workers
   pub limits : IsWithin script
   pub report : LiveReport
   pub is_report : IsReportOn chain known workers (commands_of script) report
+  pub fresh : AreFresh workers report (commands_of script)
   pub text : told_part (live_text workers known report (commands_of script))
 
 -- none of the first n lines is too long

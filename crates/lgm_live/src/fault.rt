@@ -17,7 +17,7 @@ pub enum LiveFault {
     /// A worker found nothing published, or got no place at the board.
     #[error("board closed")]
     Closed,
-    /// A worker answered on a map that isn't that of the end of a batch.
+    /// A worker answered on a map that isn't that of the end of a batch, or that lacks a batch before a payment.
     #[error("versions disagree")]
     Versions,
 }

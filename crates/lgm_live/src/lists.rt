@@ -2,7 +2,7 @@
 
 ghost use Rattle.std.specs.Prelude.{◌≡◌, ◌↔◌, ◌≤◌, ◌<◌, [], ◌∷◌, ◌++◌, length, replicate, IsTrue, IfOk, OnOk, OnErr};
 ghost use Rattle.lgm_live.specs.Batches.{items_of};
-ghost use Rattle.lgm_live.specs.inner.Gathered.{given};
+ghost use Rattle.lgm_live.specs.inner.Gathered.{appended_to};
 
 use lgm_board::MAX_OPERATIONS;
 use lgm_gossip::Sequence;
@@ -42,7 +42,6 @@ impl<T: Drop> Lists<T> {
         }
     }
 
-    /// This many empty lists. The only error is out of memory.
     pub(crate) fn empty(alloc: Global, count: usize) -> Result<Lists<T>, AllocError>
         ensures { IfOk result (λ lists. lists ≡ replicate count []) }
     {
@@ -53,7 +52,7 @@ impl<T: Drop> Lists<T> {
         Ok(lists)
     }
 
-    /// Adds a list. The only error is out of memory, and then the list is dropped.
+    /// Adds a list, which is dropped if memory runs out.
     pub fn push(&mut self, list: Vec<T>) -> Result<(), AllocError>
         ensures ok { OnOk result (self.new ≡ self.old ++ list.items ∷ []) }
         ensures err { OnErr result (self.new ≡ self.old) }
@@ -62,10 +61,9 @@ impl<T: Drop> Lists<T> {
         Ok(())
     }
 
-    /// Appends to one of the lists.
     pub(crate) fn append(&mut self, alloc: Global, place: usize, item: T) -> Result<(), AllocError>
         requires { place < length self.old }
-        ensures { OnOk result (self.new ≡ given self.old place item) }
+        ensures { OnOk result (self.new ≡ appended_to self.old place item) }
     {
         let list = &mut self.lists[place];
         let mut items = mem::replace(list, Sequence::from_vec(Vec::new(alloc))).into_vec();
@@ -81,7 +79,6 @@ impl<T: Drop> Lists<T> {
         self.lists.len()
     }
 
-    /// The lists, borrowed.
     pub(crate) fn as_slice(&self) -> &[Sequence<T>]
         ensures { result.now ≡ self.now }
     {

@@ -27,8 +27,8 @@ use std::sync::Wait;
 use std::thread::{Threads, join_mut};
 
 /// Runs the workers with the given eyes.
-fn work_given<R: Threads + Sync, G: Gate>(
-    pool: &Pool<'_, R, G>,
+fn work_given<Rt: Threads + Sync, G: Gate>(
+    pool: &Pool<'_, Rt, G>,
     given: &mut Option<Vec<Eye>>,
     lists: &[Sequence<Request>],
 ) -> Result<Vec<WorkerResult>, LiveFault>
@@ -45,8 +45,8 @@ fn work_given<R: Threads + Sync, G: Gate>(
 
 /// Runs the writer and the workers in parallel. If no thread can be started the writer comes first, since workers may
 /// wait for what it publishes.
-fn run_both<R: Threads + Wait + Sync + RandomSource, G: Gate>(
-    pool: &Pool<'_, R, G>,
+fn run_both<Rt: Threads + Wait + Sync + RandomSource, G: Gate>(
+    pool: &Pool<'_, Rt, G>,
     chain: &ChainHash,
     pen: &mut Pen,
     eyes: Vec<Eye>,
@@ -68,7 +68,7 @@ fn run_both<R: Threads + Wait + Sync + RandomSource, G: Gate>(
     let (works, written) = join_mut(
         pool.rt,
         &mut || -> Result<Vec<WorkerResult>, LiveFault>
-            requires sync { IsSync R.row }
+            requires sync { IsSync Rt.row }
             requires given { IfSome given (λ eyes. length eyes.items ≡ length lists.now) }
             requires some { 0 < length lists.now }
             requires few { length lists.now ≤ MAX_WORKERS }
@@ -100,7 +100,6 @@ fn gather(
         AllZip (IsTied pen.old.published report.ends.items) works.items report.answers.items) (λ _. ⊥)) }
 {
     let WriterResult {
-        map: _map,
         outcomes,
         ops,
         ends,
@@ -127,8 +126,8 @@ fn gather(
 ///
 /// A fault is returned when all are done. `NoMemory` includes the search for a route. `Closed` and `Versions` don't
 /// occur, which is tested and not proved: a board has as many places as workers, and shows what was published last.
-pub fn live<R: Threads + Wait + Sync + RandomSource, G: Gate>(
-    rt: &R,
+pub fn live<Rt: Threads + Wait + Sync + RandomSource, G: Gate>(
+    rt: &Rt,
     alloc: Global,
     chain: &ChainHash,
     known: &Known,

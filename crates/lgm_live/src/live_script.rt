@@ -3,6 +3,7 @@
 ghost use Rattle.std.specs.Prelude.{◌≡◌, ◌≤◌, []};
 ghost use Rattle.lgm_live.specs.RunsLive.{RunsLive};
 
+use crate::freshness::are_fresh;
 use crate::live_batches::live;
 use crate::ordering_gate::OrderingGate;
 use crate::read_script::read_script;
@@ -43,20 +44,18 @@ fn run_all<Rt: Threads + Wait + Sync + RandomSource, G: Gate, R: Source, W: Sink
         parsed.lists(),
         &paced,
     )?;
-    write_answers(
-        pool.alloc,
-        pool.workers,
-        parsed.line_answers(),
-        &report,
-        output,
-    )?;
+    let line_answers = parsed.line_answers();
+    if !are_fresh(pool.workers, line_answers, &report) {
+        return Err(RunFault::Versions);
+    }
+    write_answers(pool.alloc, pool.workers, line_answers, &report, output)?;
     Ok(report)
 }
 
 /// Runs a whole script (see `lgm live` in `docs/script.md`): reads it, has [`live`] admit its items and answer its
 /// payments in parallel, and then writes the text of its lines, in order. Batches of items end at `commit` lines and at
 /// the end. Payments are dealt to 1 to 64 workers round-robin, from worker 0 on. A payment waits until the
-/// batches whose `commit` is before it are published, so it is answered on these or on later ones.
+/// batches whose `commit` is before it are published, so it is answered on a map with these or with more, which is checked.
 ///
 /// Items and commits are answered as by `run` if no peer has a filter. The answer to a payment has the
 /// version of its map, `same`, and the answer itself; `same` says that the map of that many operations gives this

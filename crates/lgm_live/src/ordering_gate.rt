@@ -10,8 +10,8 @@ use std::sync::{Condvar, Mutex, Wait};
 /// A gate at which each payment waits until the batches before its line are published. Each payment and each
 /// publication passes the caller's gate first. A worker that waits has no guard.
 #[derive(Drop)]
-pub(crate) struct OrderingGate<'a, R: Wait, G: Gate> {
-    rt: &'a R,
+pub(crate) struct OrderingGate<'a, Rt: Wait, G: Gate> {
+    rt: &'a Rt,
     gate: &'a G,
     /// For each payment, in the script's order, the number of batches before it.
     above: &'a [usize],
@@ -23,15 +23,15 @@ pub(crate) struct OrderingGate<'a, R: Wait, G: Gate> {
     more: Condvar,
 }
 
-impl<'a, R: Wait, G: Gate> OrderingGate<'a, R, G> {
+impl<'a, Rt: Wait, G: Gate> OrderingGate<'a, Rt, G> {
     /// A gate for this many workers, none of which has started a payment.
     pub(crate) fn new(
-        rt: &'a R,
+        rt: &'a Rt,
         alloc: Global,
         gate: &'a G,
         workers: usize,
         above: &'a [usize],
-    ) -> Result<OrderingGate<'a, R, G>, AllocError> {
+    ) -> Result<OrderingGate<'a, Rt, G>, AllocError> {
         let mut begun = Vec::new(alloc);
         for _worker in 0..workers {
             begun.push(AtomicU64::new(0))?;
@@ -62,7 +62,7 @@ fn due(begun: &[AtomicU64], above: &[usize], worker: usize) -> usize {
     }
 }
 
-impl<'a, R: Wait + Sync, G: Gate> Gate for OrderingGate<'a, R, G> {
+impl<'a, Rt: Wait + Sync, G: Gate> Gate for OrderingGate<'a, Rt, G> {
     fn pass(&self, piece: usize) {
         self.gate.pass(piece);
         let due = due(self.begun.as_slice(), self.above, piece);

@@ -1,7 +1,7 @@
 //! The commands of a script, collected before any of it is answered.
 
 ghost use Rattle.std.specs.Prelude.{◌≡◌, ◌+◌, ◌%◌, ◌<◌, ◌^◌, [], ◌∷◌, ◌++◌, length, replicate, IfOk, OnOk};
-ghost use Rattle.lgm_live.specs.inner.Gathered.{line_answer_of, given, with_request, with_line};
+ghost use Rattle.lgm_live.specs.inner.Gathered.{line_answer_of, appended_to, with_request, with_line};
 
 use crate::lists::{Batches, RequestLists};
 use crate::turn::Turn;
@@ -69,11 +69,11 @@ impl ParsedScript {
     }
 
     /// Assigns a payment to the worker whose turn it is.
-    fn give(&mut self, alloc: Global, request: RouteRequest) -> Result<(), AllocError>
+    fn assign_payment(&mut self, alloc: Global, request: RouteRequest) -> Result<(), AllocError>
         requires some { 0 < length self.old.lists }
         requires few { self.old.payments + 1 < 2 ^ 64 }
         ensures { OnOk result (self.new ≡ record self.old {
-          lists = given self.old.lists (self.old.payments % length self.old.lists) request;
+          lists = appended_to self.old.lists (self.old.payments % length self.old.lists) request;
           payments = self.old.payments + 1;
         }) }
     {
@@ -85,7 +85,7 @@ impl ParsedScript {
     }
 
     /// Stores the command of a line, and returns where its answer will be found.
-    fn keep(&mut self, alloc: Global, request: Command) -> Result<LineAnswer, AllocError>
+    fn store_command(&mut self, alloc: Global, request: Command) -> Result<LineAnswer, AllocError>
         requires some { 0 < length self.old.lists }
         requires few { self.old.payments + 1 < 2 ^ 64 }
         ensures line_answer { IfOk result (λ line_answer. line_answer ≡ line_answer_of request) }
@@ -104,19 +104,18 @@ impl ParsedScript {
             }
             Command::Query(_) | Command::Filter(_, _) => Ok(LineAnswer::NotLive),
             Command::Route(payment) => {
-                self.give(alloc, asked_route(&payment))?;
+                self.assign_payment(alloc, asked_route(&payment))?;
                 Ok(LineAnswer::Payment(payment.secret))
             }
         }
     }
 
-    /// Adds the command of a line.
-    pub(crate) fn note(&mut self, alloc: Global, request: Command) -> Result<(), AllocError>
+    pub(crate) fn add_command(&mut self, alloc: Global, request: Command) -> Result<(), AllocError>
         requires some { 0 < length self.old.lists }
         requires few { self.old.payments + 1 < 2 ^ 64 }
         ensures { OnOk result (self.new ≡ with_line self.old request) }
     {
-        let line_answer = self.keep(alloc, request)?;
+        let line_answer = self.store_command(alloc, request)?;
         self.line_answers.push(line_answer)?;
         Ok(())
     }

@@ -4,7 +4,7 @@ ghost use Rattle.std.specs.Prelude.{◌≡◌, ◌≤◌, ◌+◌, ◌<◌, ◌^
 ghost use Rattle.lgm_script.specs.Output.{told_by};
 ghost use Rattle.lgm_script.specs.Command.{command_of};
 ghost use Rattle.lgm_live.specs.inner.Gathered.{with_line};
-ghost use Rattle.lgm_live.specs.inner.Reading.{IsNoted, IsRead, HasRead};
+ghost use Rattle.lgm_live.specs.inner.Reading.{AreAdded, IsRead, HasRead};
 
 use crate::parsed_script::ParsedScript;
 use lgm_answers::{MAX_LINES, RunFault};
@@ -12,7 +12,7 @@ use lgm_script::{LineReader, Output, ROOM, Sink, Source, more_begins, next_line,
 use std::alloc::{AllocError, Global};
 
 /// Adds the command of the first line, which has this many bytes, and drops the line.
-fn note_line(
+fn add_first_line(
     alloc: Global,
     count: usize,
     lines: &mut LineReader,
@@ -28,7 +28,7 @@ fn note_line(
     let request = parse(alloc, &bytes[..count])?;
     let len = bytes.len().min(count + 1);
     lines.drop_front(len);
-    parsed.note(alloc, request)
+    parsed.add_command(alloc, request)
 }
 
 /// Reads the lines of a script, of which nothing was read yet, and adds their requests. The output buffer is empty, so
@@ -45,14 +45,14 @@ fn read_lines<R: Source, W: Sink>(
     requires none { parsed.old.payments ≡ 0 }
     requires buffered { output.old.buffered.now.items ≡ [] }
     ensures { HasRead (R.seen source.old) (R.seen source.new) (told_by W.seen output.old)
-        (told_by W.seen output.new) (λ _. IsNoted (R.seen source.old).left parsed.old parsed.new) result }
+        (told_by W.seen output.new) (λ _. AreAdded (R.seen source.old).left parsed.old parsed.new) result }
 {
     let mut number = 0;
     while number < MAX_LINES {
         let Some(count) = next_line(lines, source, output)? else {
             return Ok(());
         };
-        note_line(alloc, count, lines, parsed)?;
+        add_first_line(alloc, count, lines, parsed)?;
         number += 1;
     }
     if more_begins(lines, source, output)? {

@@ -1,6 +1,6 @@
 //! The workers' side.
 
-ghost use Rattle.std.specs.Prelude.{◌≡◌, ◌⊎◌, ◌+◌, ◌<◌, ◌≤◌, length, Err, IfOk};
+ghost use Rattle.std.specs.Prelude.{◌≡◌, ◌+◌, ◌<◌, ◌≤◌, length, IfOk};
 ghost use Rattle.std.specs.Thread.{IsSync};
 ghost use Rattle.lgm_store.specs.History.{fold};
 ghost use Rattle.lgm_graph.specs.Edges.{edges_of};
@@ -13,7 +13,7 @@ use crate::report::LiveAnswer;
 use lgm_board::{Eye, Guard};
 use lgm_gossip::Sequence;
 use lgm_par::{Gate, MAX_WORKERS};
-use lgm_route::{Request, Route, RouteFault};
+use lgm_route::{Request, RouteFault};
 use std::alloc::Global;
 use std::marker::Sync;
 use std::thread::{Threads, join};
@@ -25,21 +25,13 @@ pub(crate) struct WorkerResult {
     pub(crate) answers: Vec<LiveAnswer>,
 }
 
-/// The best route of a payment over the edges of the map that a guard shows.
-fn find(alloc: Global, guard: &Guard, request: &Request) -> Result<Route, RouteFault>
-    ensures { (result ≡ Err RouteFault.NoMemory) ⊎
-        (result ≡ answer_of (edges_of guard.now.known (fold guard.now.ops)) request.now) }
-{
-    lgm_route::answer(alloc, guard.map(), guard.view(), request)
-}
-
 /// Answers a payment on the map that a guard shows.
 fn answer(alloc: Global, guard: &Guard, request: &Request) -> Result<LiveAnswer, LiveFault>
     ensures version { IfOk result (λ answer. answer.version ≡ length guard.now.ops) }
     ensures result { IfOk result
         (λ answer. answer.result ≡ answer_of (edges_of guard.now.known (fold guard.now.ops)) request.now) }
 {
-    match find(alloc, guard, request) {
+    match lgm_route::answer(alloc, guard.map(), guard.view(), request) {
         Err(RouteFault::NoMemory) => Err(LiveFault::NoMemory),
         result => Ok(LiveAnswer {
             version: guard.version(),
@@ -77,8 +69,8 @@ fn work<G: Gate>(
 }
 
 /// Answers each list with its eye, in parallel with the others. The workers are numbered from `first` on.
-pub(crate) fn work_all<R: Threads + Sync, G: Gate>(
-    rt: &R,
+pub(crate) fn work_all<Rt: Threads + Sync, G: Gate>(
+    rt: &Rt,
     alloc: Global,
     gate: &G,
     first: usize,
@@ -99,14 +91,14 @@ pub(crate) fn work_all<R: Threads + Sync, G: Gate>(
     let (done, others) = join(
         rt,
         move || -> Result<Vec<WorkerResult>, LiveFault>
-            requires sync { IsSync R.row }
+            requires sync { IsSync Rt.row }
             requires same { length eyes.items ≡ length near.now }
             requires some { 0 < length near.now }
             requires few { first + length near.now ≤ MAX_WORKERS }
             ensures { IfOk result (λ works. HaveWorked eyes.items near.entry.now works.items) }
         { work_all(rt, alloc, gate, first, eyes, near) },
         move || -> Result<Vec<WorkerResult>, LiveFault>
-            requires sync { IsSync R.row }
+            requires sync { IsSync Rt.row }
             requires same { length rest.items ≡ length far.now }
             requires some { 0 < length far.now }
             requires few { first + half + length far.now ≤ MAX_WORKERS }

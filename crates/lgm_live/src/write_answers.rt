@@ -1,64 +1,18 @@
 //! Writing the text of a script and of the report on it.
 
 ghost use Rattle.std.specs.Prelude.{◌≡◌, ◌≤◌, ◌+◌, ◌<◌, ◌^◌, [], length, OnOk, OnErr};
-ghost use Rattle.std.specs.Option.{option_map};
 ghost use Rattle.lgm_script.specs.Device.{Appends, AppendsSome};
 ghost use Rattle.lgm_script.specs.Output.{told_by, Writes};
-ghost use Rattle.lgm_live.specs.Text.{answer_at};
-ghost use Rattle.lgm_live.specs.inner.Telling.{place_passed, same_text, slot_text};
+ghost use Rattle.lgm_live.specs.inner.Telling.{same_text, slot_text};
 ghost use Rattle.lgm_live.specs.inner.Telling.{slots_before, IsThere, AreThere};
 ghost use Rattle.lgm_live.specs.declared.report.LiveAnswer.{LiveAnswer};
 
 use crate::parsed_script::LineAnswer;
 use crate::report::{LiveAnswer, LiveReport};
-use crate::turn::Turn;
+use crate::report_place::{ReportPlace, answer_at};
 use lgm_answers::{MAX_LINES, outcome_word, send_found};
 use lgm_script::{Line, Output, SendFault, Sink};
 use std::alloc::Global;
-
-/// The indices of the next outcome, end and answer of a report.
-#[derive(Clone, Copy)]
-pub(crate) struct ReportPlace {
-    items: usize,
-    ends: usize,
-    payments: usize,
-}
-
-impl ReportPlace {
-    /// The indices after a line's answer.
-    fn pass(self, line_answer: LineAnswer) -> ReportPlace
-        requires items { self.items + 1 < 2 ^ 64 }
-        requires ends { self.ends + 1 < 2 ^ 64 }
-        requires payments { self.payments + 1 < 2 ^ 64 }
-        ensures { result ≡ place_passed self line_answer }
-    {
-        let ReportPlace {
-            mut items,
-            mut ends,
-            mut payments,
-        } = self;
-        match line_answer {
-            LineAnswer::Item => items += 1,
-            LineAnswer::Commit => ends += 1,
-            LineAnswer::Payment(_) => payments += 1,
-            _ => {}
-        }
-        ReportPlace {
-            items,
-            ends,
-            payments,
-        }
-    }
-}
-
-/// The answer to a payment, by its index among all that were dealt to this many workers round-robin.
-fn answer_at(answers: &[Vec<LiveAnswer>], workers: usize, place: usize) -> Option<&LiveAnswer>
-    requires { 0 < workers }
-    ensures { option_map (λ answer. answer.now) result ≡ answer_at workers answers.now place }
-{
-    let turn = Turn::of(place, workers);
-    answers.get(turn.worker)?.get(turn.round)
-}
 
 /// Writes the answer to a payment, with the version of its map. That the map of that many operations gives the same
 /// answer is proved of each report of `live`, so it isn't computed again.
@@ -125,11 +79,7 @@ fn write_line_answers<W: Sink>(
         (slots_before workers report.now line_answers.now (length line_answers.now)) result }
 {
     let mut number = 0;
-    let mut place = ReportPlace {
-        items: 0,
-        ends: 0,
-        payments: 0,
-    };
+    let mut place = ReportPlace::first();
     for line_answer in line_answers {
         number += 1;
         write_line_answer(alloc, workers, number, *line_answer, place, report, output)?;

@@ -1,11 +1,11 @@
 //! The writer's side.
 
 ghost use Rattle.std.specs.Prelude.{◌≡◌, ◌+◌, ◌<◌, ◌≤◌, List, [], ◌∷◌, ◌++◌, length, IfOk, OnOk, OnErr};
-ghost use Rattle.lgm_script.specs.declared.item.Item.{Item};
+ghost use Rattle.lgm_script.specs.declared.grammar.item.Item.{Item};
 ghost use Rattle.lgm_live.specs.Batches.{items_of};
 ghost use Rattle.lgm_live.specs.inner.WriterResult.{IsWritten, ArePublished};
 ghost use Rattle.lgm_wire.specs.reading.Reading.{Gives};
-ghost use Rattle.lgm_store.specs.History.{absorbed};
+ghost use Rattle.lgm_store.specs.History.{absorbed, fold};
 ghost use Rattle.lgm_answers.specs.Outcomes.{outcome_of};
 
 use crate::fault::LiveFault;
@@ -15,15 +15,13 @@ use lgm_gossip::{ChainHash, Sequence};
 use lgm_par::{Gate, Pool};
 use lgm_script::Item;
 use lgm_store::{CheckedMessage, Map, Op, Seed};
-use std::alloc::{AllocError, Global};
+use std::alloc::Global;
 use std::random::RandomSource;
 use std::sync::Wait;
 
 /// What the writer has done so far.
 #[derive(Drop)]
 pub(crate) struct WriterResult {
-    /// The map of all accepted items.
-    pub(crate) map: Box<Map>,
     /// For each item, why it was refused, or none.
     pub(crate) outcomes: Vec<Option<Refusal>>,
     /// The operations of the accepted items.
@@ -33,24 +31,22 @@ pub(crate) struct WriterResult {
 }
 
 impl WriterResult {
-    /// Nothing yet. Points of the map will be hashed with the seed.
-    fn new(alloc: Global, seed: Seed) -> Result<WriterResult, AllocError>
-        ensures written { (chain : _) → IfOk result (IsWritten chain []) }
-        ensures ends { IfOk result (λ written. written.ends.items ≡ []) }
-        ensures none { IfOk result (λ written. written.ops.items ≡ []) }
+    /// Nothing yet.
+    fn new(alloc: Global) -> WriterResult
+        ensures written { (chain : _) → IsWritten chain [] result }
+        ensures ends { result.ends.items ≡ [] }
+        ensures none { result.ops.items ≡ [] }
     {
-        Ok(WriterResult {
-            map: Box::new(alloc, Map::with_seed(alloc, seed)?)?,
+        WriterResult {
             outcomes: Vec::new(alloc),
             ops: Vec::new(alloc),
             ends: Vec::new(alloc),
-        })
+        }
     }
 
     /// Appends the operation of an accepted item, and stores a copy.
-    fn keep(&mut self, alloc: Global, pen: &mut Pen, op: Op) -> Result<(), LiveFault>
+    fn append_op(&mut self, alloc: Global, pen: &mut Pen, op: Op) -> Result<(), LiveFault>
         requires few { length (pen.old.published ++ pen.old.pending) < MAX_OPERATIONS }
-        ensures map { self.new.map ≡ self.old.map }
         ensures outcomes { self.new.outcomes ≡ self.old.outcomes }
         ensures ends { self.new.ends ≡ self.old.ends }
         ensures ops { OnOk result (self.new.ops.items ≡ self.old.ops.items ++ op ∷ []) }
@@ -68,18 +64,21 @@ impl WriterResult {
         }
     }
 
-    /// Offers one item to the map.
-    fn take_item(
+    /// Offers one item to the map, which is that of the operations so far.
+    fn offer_item(
         &mut self,
         alloc: Global,
         chain: &ChainHash,
         pen: &mut Pen,
+        map: &mut Map,
         item: &Item,
     ) -> Result<(), LiveFault>
+        requires map { map.old ≡ fold self.old.ops.items }
         requires few { length self.old.ops.items < MAX_OPERATIONS }
         requires appended { pen.old.published ++ pen.old.pending ≡ self.old.ops.items }
         ensures written { (items : List Item) → IsWritten chain.now items self.old
             → OnOk result (IsWritten chain.now (items ++ item.now ∷ []) self.new) }
+        ensures map { OnOk result (map.new ≡ fold self.new.ops.items) }
         ensures ends { self.new.ends ≡ self.old.ends }
         ensures grows { OnOk result ((length self.old.ops.items ≤ length self.new.ops.items)
             × (length self.new.ops.items ≤ length self.old.ops.items + 1)) }
@@ -87,9 +86,9 @@ impl WriterResult {
         ensures published { pen.new.published ≡ pen.old.published }
         ensures appended { OnOk result (pen.new.published ++ pen.new.pending ≡ self.new.ops.items) }
     {
-        match admit(alloc, chain, &mut *self.map, item) {
+        match admit(alloc, chain, map, item) {
             Ok(op) => {
-                self.keep(alloc, pen, op)?;
+                self.append_op(alloc, pen, op)?;
                 self.outcomes.push(None)?;
             }
             Err(Refusal::NoMemory) => return Err(LiveFault::NoMemory),
@@ -99,9 +98,8 @@ impl WriterResult {
     }
 
     /// Publishes what was appended, and stores the number of operations.
-    fn publish<R: Wait>(&mut self, rt: &R, pen: &mut Pen) -> Result<(), LiveFault>
+    fn publish<Rt: Wait>(&mut self, rt: &Rt, pen: &mut Pen) -> Result<(), LiveFault>
         requires appended { pen.old.published ++ pen.old.pending ≡ self.old.ops.items }
-        ensures map { self.new.map ≡ self.old.map }
         ensures outcomes { self.new.outcomes ≡ self.old.outcomes }
         ensures ops { self.new.ops ≡ self.old.ops }
         ensures ends { OnOk result
@@ -118,17 +116,20 @@ impl WriterResult {
     }
 
     /// Offers a batch's items to the map, one after the other, and publishes what was accepted.
-    fn take_batch<R: Wait, G: Gate>(
+    fn publish_batch<Rt: Wait, G: Gate>(
         &mut self,
-        pool: &Pool<'_, R, G>,
+        pool: &Pool<'_, Rt, G>,
         chain: &ChainHash,
         pen: &mut Pen,
+        map: &mut Map,
         batch: &[Item],
     ) -> Result<(), LiveFault>
+        requires map { map.old ≡ fold self.old.ops.items }
         requires few { length self.old.ops.items + length batch.now ≤ MAX_OPERATIONS }
         requires pen { (pen.old.published ≡ self.old.ops.items) × (pen.old.pending ≡ []) }
         ensures written { (items : List Item) → IsWritten chain.now items self.old
             → OnOk result (IsWritten chain.now (items ++ batch.now) self.new) }
+        ensures map { OnOk result (map.new ≡ fold self.new.ops.items) }
         ensures ends { OnOk result
             (self.new.ends.items ≡ self.old.ends.items ++ length self.new.ops.items ∷ []) }
         ensures grows { OnOk result ((length self.old.ops.items ≤ length self.new.ops.items)
@@ -137,7 +138,7 @@ impl WriterResult {
         ensures published { OnOk result ((pen.new.published ≡ self.new.ops.items) × (pen.new.pending ≡ [])) }
     {
         for item in batch {
-            self.take_item(pool.alloc, chain, pen, item)?;
+            self.offer_item(pool.alloc, chain, pen, map, item)?;
         }
         pool.gate.pass(pool.workers);
         self.publish(pool.rt, pen)
@@ -145,8 +146,8 @@ impl WriterResult {
 }
 
 /// Offers each batch's items to a map, one after the other, and publishes what was accepted of each.
-pub(crate) fn publish_batches<R: Wait + RandomSource, G: Gate>(
-    pool: &Pool<'_, R, G>,
+pub(crate) fn publish_batches<Rt: Wait + RandomSource, G: Gate>(
+    pool: &Pool<'_, Rt, G>,
     chain: &ChainHash,
     pen: &mut Pen,
     batches: &[Sequence<Item>],
@@ -156,9 +157,10 @@ pub(crate) fn publish_batches<R: Wait + RandomSource, G: Gate>(
     ensures board { pen.new.board ≡ pen.old.board }
     ensures published { IfOk result (ArePublished chain.now batches.now pen.new.published) }
 {
-    let mut written = WriterResult::new(pool.alloc, Seed::random(pool.rt))?;
+    let mut map = Map::with_seed(pool.alloc, Seed::random(pool.rt))?;
+    let mut written = WriterResult::new(pool.alloc);
     for batch in batches {
-        written.take_batch(pool, chain, pen, batch.as_slice())?;
+        written.publish_batch(pool, chain, pen, &mut map, batch.as_slice())?;
         pool.gate.published(written.ends.len());
     }
     Ok(written)

@@ -96,8 +96,8 @@ fn is_right(answer: &LiveAnswer) -> bool {
 }
 
 /// What is reported of these batches and lists, of which there are a few.
-pub fn report_of<R: Abort + Threads + Wait + Sync + RandomSource, G: Gate>(
-    rt: &R,
+pub fn report_of<Rt: Abort + Threads + Wait + Sync + RandomSource, G: Gate>(
+    rt: &Rt,
     alloc: Global,
     batches: &Batches,
     lists: &RequestLists,
@@ -111,8 +111,8 @@ pub fn report_of<R: Abort + Threads + Wait + Sync + RandomSource, G: Gate>(
 }
 
 /// What is reported of the two channels and empty batches after them.
-fn run<R: Abort + Threads + Wait + Sync + RandomSource, G: Gate>(
-    rt: &R,
+fn run<Rt: Abort + Threads + Wait + Sync + RandomSource, G: Gate>(
+    rt: &Rt,
     alloc: Global,
     empty: usize,
     workers: usize,
@@ -146,8 +146,8 @@ fn versions(alloc: Global, report: &LiveReport) -> Result<Vec<u64>, AllocError> 
 }
 
 /// Two workers, one or both of which this plan delays, answer right in the end.
-fn assert_two_held<R: Abort + Threads + Wait + Sync + RandomSource>(
-    rt: &R,
+fn assert_two_held<Rt: Abort + Threads + Wait + Sync + RandomSource>(
+    rt: &Rt,
     alloc: Global,
     plan: Plan,
 ) -> Result<(), Fail> {

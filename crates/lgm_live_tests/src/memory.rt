@@ -12,7 +12,7 @@ use std::rt::Files;
 use std::test::Fail;
 
 /// The most memory that the process has had so far, in KiB.
-fn most_memory<R: Files + AllocGlobal>(rt: &R) -> Result<u64, Fail> {
+fn most_memory<Rt: Files + AllocGlobal>(rt: &Rt) -> Result<u64, Fail> {
     let status = fs::read_to_string(rt, "/proc/self/status")?;
     for line in status.lines() {
         if let Some(figure) = line.strip_prefix("VmHWM:") {

@@ -14,16 +14,16 @@ use std::thread::Threads;
 
 /// A runtime that counts the random bytes that are requested.
 #[derive(Drop)]
-struct Asked<'a, R> {
-    rt: &'a R,
+struct Asked<'a, Rt> {
+    rt: &'a Rt,
     bytes: AtomicU64,
 }
 
-impl<R: Threads> Threads for Asked<'_, R> {}
+impl<Rt: Threads> Threads for Asked<'_, Rt> {}
 
-impl<R: Wait> Wait for Asked<'_, R> {}
+impl<Rt: Wait> Wait for Asked<'_, Rt> {}
 
-impl<R: RandomSource> RandomSource for Asked<'_, R> {
+impl<Rt: RandomSource> RandomSource for Asked<'_, Rt> {
     fn fill_bytes(&self, buf: &mut [u8]) -> io::Result<()> {
         self.bytes.fetch_add(buf.len() as u64, Ordering::SeqCst);
         self.rt.fill_bytes(buf)
@@ -31,7 +31,7 @@ impl<R: RandomSource> RandomSource for Asked<'_, R> {
 }
 
 /// A runtime that wasn't used yet.
-fn unasked<R>(rt: &R) -> Asked<'_, R> {
+fn unasked<Rt>(rt: &Rt) -> Asked<'_, Rt> {
     Asked {
         rt,
         bytes: AtomicU64::new(0),

@@ -1,4 +1,4 @@
-//! Tests of the map: comparisons with a plain program, and histories.
+//! Tests of the map: comparisons with a plain program, and histories. Where an error is `AllocError`, memory ran out.
 #![tactic(auto)]
 
 #[cfg(test)]

@@ -4,10 +4,10 @@ use Rattle.std.specs.Prelude.{OnOk}
 use Rattle.std.proofs.lemmas.List.{append-nil}
 use Rattle.std.specs.List.{AllByRecursion}
 use Rattle.lgm_wire.specs.declared.chain_hash.ChainHash.{ChainHash}
-use Rattle.lgm_script.specs.declared.line_form.LineKind.{LineKind}
-use Rattle.lgm_script.specs.declared.line_form.LineKind.TheVariants as kinds
-use Rattle.lgm_script.specs.declared.command.Command.{Command}
-use Rattle.lgm_script.specs.declared.command.Command.TheVariants as requests
+use Rattle.lgm_script.specs.declared.grammar.line_form.LineKind.{LineKind}
+use Rattle.lgm_script.specs.declared.grammar.line_form.LineKind.TheVariants as kinds
+use Rattle.lgm_script.specs.declared.grammar.command.Command.{Command}
+use Rattle.lgm_script.specs.declared.grammar.command.Command.TheVariants as requests
 use Rattle.lgm_script.specs.Groups.{AreAlike, IsOfKind}
 use Rattle.lgm_answers.specs.Script.{ScriptState, text_for}
 use Rattle.lgm_run.specs.inner.Steps.{state_after, state_from, text_from, state_alone, text_alone}

@@ -2,11 +2,11 @@
 use Rattle.std.proofs.Common.{◌≡◌, ℕ, ◌+◌, ◌<◌, ◌≤◌, List, [], Option, Result, Ok, Err, refl, sym, ap, ◌∙◌, length, arith}
 use Rattle.std.specs.Prelude.{◌≢◌, IfSome, IfOk, IfErr}
 use Rattle.lgm_wire.specs.declared.chain_hash.ChainHash.{ChainHash}
-use Rattle.lgm_script.specs.declared.line_reader.TheConstants.{MAX_LINE}
+use Rattle.lgm_script.specs.declared.input.line_reader.TheConstants.{MAX_LINE}
 use Rattle.lgm_script.specs.declared.output.SendFault.{SendFault}
 use Rattle.lgm_script.specs.declared.output.SendFault.TheVariants as sending
-use Rattle.lgm_script.specs.declared.read.LineFault.{LineFault}
-use Rattle.lgm_script.specs.declared.read.LineFault.TheVariants as lines
+use Rattle.lgm_script.specs.declared.input.read.LineFault.{LineFault}
+use Rattle.lgm_script.specs.declared.input.read.LineFault.TheVariants as lines
 use Rattle.lgm_script.specs.Device.{Input, IsAtEnd}
 use Rattle.lgm_script.specs.Lines.{ahead, IsFirstLine, IsLongerThan}
 use Rattle.lgm_script.specs.Output.{OutputState, Tells, TellsPart, TellsSome}

@@ -14,9 +14,9 @@ use Rattle.lgm_store.specs.Rows.{empty}
 use Rattle.lgm_store.specs.History.{fold}
 use Rattle.lgm_store.proofs.Histories.{fold_from-push}
 use Rattle.lgm_query.specs.declared.filter.Filter.{Filter}
-use Rattle.lgm_script.specs.declared.item.Item.{Item}
-use Rattle.lgm_script.specs.declared.command.Command.{Command}
-use Rattle.lgm_script.specs.declared.command.Command.TheVariants as requests
+use Rattle.lgm_script.specs.declared.grammar.item.Item.{Item}
+use Rattle.lgm_script.specs.declared.grammar.command.Command.{Command}
+use Rattle.lgm_script.specs.declared.grammar.command.Command.TheVariants as requests
 use Rattle.lgm_script.specs.Command.{item_in, HasLawfulPeer}
 use Rattle.lgm_answers.specs.declared.filters.PeerFilter.{PeerFilter}
 use Rattle.lgm_query.specs.declared.request.RequestFault.{RequestFault}

@@ -12,11 +12,11 @@ use Rattle.lgm_check.specs.Precheck.{checked_of}
 use Rattle.lgm_store.specs.declared.op.Op.{Op}
 use Rattle.lgm_store.specs.Rows.{Rows}
 use Rattle.lgm_store.specs.Admission.{admitted}
-use Rattle.lgm_script.specs.declared.item.Item.{Item}
-use Rattle.lgm_script.specs.declared.item.Item.TheVariants.{Gossip, Close}
-use Rattle.lgm_script.specs.declared.line_form.LineKind.TheVariants as kinds
-use Rattle.lgm_script.specs.declared.command.Command.{Command}
-use Rattle.lgm_script.specs.declared.command.Command.TheVariants as requests
+use Rattle.lgm_script.specs.declared.grammar.item.Item.{Item}
+use Rattle.lgm_script.specs.declared.grammar.item.Item.TheVariants.{Gossip, Close}
+use Rattle.lgm_script.specs.declared.grammar.line_form.LineKind.TheVariants as kinds
+use Rattle.lgm_script.specs.declared.grammar.command.Command.{Command}
+use Rattle.lgm_script.specs.declared.grammar.command.Command.TheVariants as requests
 use Rattle.lgm_script.specs.Command.{item_in}
 use Rattle.lgm_script.specs.Groups.{IsOfKind}
 use Rattle.lgm_answers.specs.Answer.{outcome_text}

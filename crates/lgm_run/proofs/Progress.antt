@@ -8,9 +8,9 @@ use Rattle.std.proofs.lemmas.List.{drop-map, take-map, nil_from_length}
 use Rattle.std.proofs.lemmas.List.Elements.{filter-append}
 use Rattle.std.proofs.lemmas.Option.{IfSome_then}
 use Rattle.lgm_wire.specs.declared.chain_hash.ChainHash.{ChainHash}
-use Rattle.lgm_script.specs.declared.line_reader.TheConstants.{MAX_LINE}
-use Rattle.lgm_script.specs.declared.command.Command.{Command}
-use Rattle.lgm_script.specs.declared.command.Command.TheVariants as requests
+use Rattle.lgm_script.specs.declared.input.line_reader.TheConstants.{MAX_LINE}
+use Rattle.lgm_script.specs.declared.grammar.command.Command.{Command}
+use Rattle.lgm_script.specs.declared.grammar.command.Command.TheVariants as requests
 use Rattle.lgm_script.specs.Device.{IsAtEnd}
 use Rattle.lgm_script.specs.Lines.{ends_line, lines_of, ahead, IsFirstLine, IsLongerThan}
 use Rattle.lgm_script.specs.Groups.{AreFirstLines, AskNext}

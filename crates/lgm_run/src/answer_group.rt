@@ -4,7 +4,7 @@ ghost use Rattle.std.specs.Prelude.{◌≡◌, ◌≤◌, ◌+◌, ◌<◌, ◌^
 ghost use Rattle.std.specs.List.{AllByRecursion};
 ghost use Rattle.lgm_script.specs.Groups.{IsOfKind, AreAlike};
 ghost use Rattle.lgm_script.specs.Output.{told_by, Writes};
-ghost use Rattle.lgm_script.specs.declared.command.Command.{Command};
+ghost use Rattle.lgm_script.specs.declared.grammar.command.Command.{Command};
 ghost use Rattle.lgm_answers.specs.Script.{text_for};
 ghost use Rattle.lgm_run.specs.inner.CheckedItem.{IsItemOf};
 ghost use Rattle.lgm_run.specs.inner.Steps.{state_alone, text_alone, state_after, state_from, text_from};
@@ -12,7 +12,7 @@ ghost use Rattle.lgm_run.specs.inner.Steps.{state_alone, text_alone, state_after
 use crate::checked_item::{CheckedItem, check_lines};
 use crate::context::Context;
 use crate::engine::Engine;
-use crate::lookahead::{hint_of, lookahead};
+use crate::lookahead::lookahead;
 use lgm_answers::{MAX_LINES, outcome_word};
 use lgm_check::Refusal;
 use lgm_par::Gate;
@@ -68,7 +68,10 @@ fn answer_items<Rt: Threads + Sync, G: Gate, W: Sink>(
     let mut ahead = lookahead(context.pool.alloc, &all)?;
     let mut number = first;
     for item in all {
-        let hint = hint_of(&mut ahead, engine.map(), &item);
+        let hint = match &item {
+            Some(Ok(CheckedItem::Message(message))) => ahead.next(engine.map(), message),
+            _ => Hint::none(),
+        };
         answer_item(context, number, item, hint, engine, output)?;
         number += 1;
     }

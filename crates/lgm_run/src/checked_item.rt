@@ -1,6 +1,6 @@
 //! Checking items in parallel.
 
-ghost use Rattle.std.specs.Prelude.{◌≡◌, ◌≤◌, ◌/◌, length, IfOk};
+ghost use Rattle.std.specs.Prelude.{◌≡◌, ◌/◌, length, IfOk};
 ghost use Rattle.std.specs.List.{AllZip};
 ghost use Rattle.lgm_script.specs.Item.{message_of};
 ghost use Rattle.lgm_script.specs.Command.{item_in};
@@ -91,17 +91,8 @@ const FEW: usize = 64;
 /// The length of text, in bytes, that is worth one more worker: checking it takes longer than starting a thread.
 const SHARE: usize = 131_072;
 
-/// The most chunks that lines are worth: one each if they are few, else two, and one more for each [`SHARE`] of text.
-fn most_chunks(group: &Group<'_>) -> usize
-    ensures { 2 ≤ result }
-{
-    if group.lines.len() <= FEW {
-        return FEW;
-    }
-    group.len / SHARE + 2
-}
-
-/// Checks the items of a group, in chunks in parallel.
+/// Checks the items of a group, in chunks in parallel: of a line each if they are few, else in two, and one more for each
+/// [`SHARE`] of text.
 pub fn check_lines<Rt: Threads + Sync, G: Gate>(
     context: &Context<'_, Rt, G>,
     group: &Group<'_>,
@@ -111,8 +102,12 @@ pub fn check_lines<Rt: Threads + Sync, G: Gate>(
 {
     let alloc = context.pool.alloc;
     let chain = &context.chain;
-    context.pool.at_most(most_chunks(group)).map(
-        group.lines.as_slice(),
-        &|line| check_line(alloc, chain, line),
-    )
+    let lines = group.lines.as_slice();
+    let most = if lines.len() <= FEW {
+        FEW
+    } else {
+        group.len / SHARE + 2
+    };
+    let pool = context.pool.at_most(most);
+    pool.map(lines, &|line| check_line(alloc, chain, line))
 }

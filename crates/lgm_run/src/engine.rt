@@ -66,30 +66,31 @@ fn offer_to(
 
 impl Engine {
     /// No item was accepted. Points will be hashed with the seed, and the known feature bits are copied.
-    pub fn new(alloc: Global, seed: Seed, known: &Known) -> Result<Engine, AllocError>
-        ensures { IfOk result (λ engine. engine ≡ opening known.now) }
+    pub(crate) fn boxed(alloc: Global, seed: Seed, known: &Known) -> Result<Box<Engine>, AllocError>
+        ensures { IfOk result (λ engine. engine.value ≡ opening known.now) }
     {
-        Ok(Engine {
+        let engine = Engine {
             timeline: Timeline::new(alloc, Network::new(alloc, seed, known)?),
             filters: Filters::new(alloc),
-        })
+        };
+        Ok(Box::new(alloc, engine)?)
     }
 
     /// The number of accepted items.
-    pub fn accepted(&self) -> u64
+    pub(crate) fn accepted(&self) -> u64
         ensures { result ≡ self.now.accepted }
     {
         self.timeline.version()
     }
 
     /// The map to which items are offered.
-    pub fn map(&self) -> &Map {
+    pub(crate) fn map(&self) -> &Map {
         self.timeline.network().map()
     }
 
     /// Offers an item, unless its check refused it. Its channel may be where the hint says. A refusal or out of memory
     /// leaves all unchanged.
-    pub fn offer(
+    pub(crate) fn offer(
         &mut self,
         alloc: Global,
         item: Result<CheckedItem, Refusal>,
@@ -108,7 +109,7 @@ impl Engine {
     }
 
     /// Answers lines that request something of the committed map, the first with this number, and sets their filters.
-    pub fn answer_questions<Rt: Threads + Sync, G: Gate, W: Sink>(
+    pub(crate) fn answer_questions<Rt: Threads + Sync, G: Gate, W: Sink>(
         &mut self,
         context: &Context<'_, Rt, G>,
         number: u64,
@@ -133,7 +134,7 @@ impl Engine {
 
     /// Commits all accepted items, and writes the news of peers. The cost is that of the items accepted
     /// since the last commit.
-    pub fn commit<W: Sink>(
+    pub(crate) fn commit<W: Sink>(
         &mut self,
         alloc: Global,
         number: u64,

@@ -2,10 +2,10 @@
 
 use crate::checked_item::CheckedItem;
 use lgm_check::Refusal;
-use lgm_store::{Hint, Lookahead, Map};
+use lgm_store::Lookahead;
 use std::alloc::{AllocError, Global};
 
-/// The messages among checked items, to be looked up. The only error is out of memory.
+/// The messages among checked items, to be looked up.
 pub fn lookahead(
     alloc: Global,
     items: &[Option<Result<CheckedItem, Refusal>>],
@@ -17,17 +17,4 @@ pub fn lookahead(
         }
     }
     Ok(ahead)
-}
-
-/// Where the item whose turn it is may be stored.
-#[inline(always)]
-pub fn hint_of(
-    ahead: &mut Lookahead,
-    map: &Map,
-    item: &Option<Result<CheckedItem, Refusal>>,
-) -> Hint {
-    match item {
-        Some(Ok(CheckedItem::Message(message))) => ahead.next(map, message),
-        _ => Hint::none(),
-    }
 }

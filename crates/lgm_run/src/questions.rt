@@ -4,7 +4,7 @@ ghost use Rattle.std.specs.Prelude.{◌≡◌, ◌+◌, ◌<◌, ◌^◌, IfOk, 
 ghost use Rattle.std.specs.List.{AllZip};
 ghost use Rattle.std.specs.Thread.{IsSync};
 ghost use Rattle.lgm_script.specs.Output.{told_by, Writes};
-ghost use Rattle.lgm_script.specs.declared.command.Command.TheVariants.{Route as AsksRoute};
+ghost use Rattle.lgm_script.specs.declared.grammar.command.Command.TheVariants.{Route as AsksRoute};
 ghost use Rattle.lgm_answers.specs.Routing.{route_answer};
 ghost use Rattle.lgm_run.specs.inner.Questions.{filters_behind};
 ghost use Rattle.lgm_run.specs.inner.Questions.{questions_text, IsAnswerTo, IsReady};

@@ -7,7 +7,7 @@
 
 pub use lgm_answers::{MAX_LINES, RunFault};
 pub use lgm_live::{Batches, LiveAnswer, LiveFault, LiveReport, RequestLists, live, run_live};
-pub use lgm_run::{Context, Counts, FinalState, run, run_keeping};
+pub use lgm_run::{Context, Counts, Engine, run, run_keeping};
 pub use lgm_script::{
     Failed, Failures, FromRead, Item, MemorySink, MemorySource, Sink, Source, ToWrite,
 };

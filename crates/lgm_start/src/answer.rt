@@ -7,7 +7,7 @@ use crate::options::{Mode, Options};
 use lgm_answers::RunFault;
 use lgm_live::{LiveReport, run_live};
 use lgm_par::{Gate, Pool};
-use lgm_run::{Context, Counts, FinalState, run_keeping};
+use lgm_run::{Context, Counts, Engine, run_keeping};
 use lgm_script::{Sink, Source};
 use std::alloc::Global;
 use std::marker::Sync;
@@ -25,7 +25,7 @@ pub enum Ended {
 }
 
 /// Answers a script according to the options: by their command, on their chain and known bits, and with their number of
-/// workers, all of whose chunks pass the gate. The maps of `lgm run` are left in `remains`.
+/// workers, all of whose chunks pass the gate. `lgm run` leaves its maps in `final_engine`.
 pub fn answer<Rt: Threads + Wait + Sync + RandomSource, G: Gate, R: Source, W: Sink>(
     rt: &Rt,
     alloc: Global,
@@ -33,7 +33,7 @@ pub fn answer<Rt: Threads + Wait + Sync + RandomSource, G: Gate, R: Source, W: S
     gate: &G,
     reader: &mut R,
     writer: &mut W,
-    remains: &mut FinalState,
+    final_engine: &mut Option<Box<Engine>>,
 ) -> Ended
     requires { (1 ≤ options.now.workers) × (options.now.workers ≤ 64) }
     ensures { AnswersAs options.now.mode options.now (R.seen reader.old) (R.seen reader.new)
@@ -54,7 +54,7 @@ pub fn answer<Rt: Threads + Wait + Sync + RandomSource, G: Gate, R: Source, W: S
                 pool,
                 chain: *chain,
             };
-            Ended::Ran(run_keeping(&context, known, reader, writer, remains))
+            Ended::Ran(run_keeping(&context, known, reader, writer, final_engine))
         }
         Mode::Live => Ended::RanLive(run_live(
             rt, alloc, reader, writer, chain, known, workers, gate,

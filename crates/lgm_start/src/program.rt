@@ -9,7 +9,6 @@ use clap::Error;
 use clap::error::ErrorKind;
 use lgm_answers::RunFault;
 use lgm_par::{Gate, Open};
-use lgm_run::FinalState;
 use lgm_script::{Sink, Source, write_all};
 use std::alloc::Global;
 use std::marker::Sync;
@@ -136,9 +135,9 @@ pub fn start_with_gate<
         Ok(options) => options,
         Err(bad) => return refuse(alloc, errors, &bad),
     };
-    let mut remains = FinalState::none();
-    let ended = answer(rt, alloc, &options, gate, reader, writer, &mut remains);
-    forget(remains);
+    let mut final_engine = None;
+    let ended = answer(rt, alloc, &options, gate, reader, writer, &mut final_engine);
+    forget(final_engine);
     let status = finish(errors, &ended);
     forget(ended);
     status

@@ -66,8 +66,7 @@ impl Model for World {
 }
 
 impl World {
-    /// Nothing is appended, and this many eyes have observed nothing. The known feature bits are copied. The only error
-    /// is out of memory.
+    /// Nothing is appended, and this many eyes have observed nothing. The known feature bits are copied.
     pub fn new(alloc: Global, eyes: usize, known: &Known) -> Result<World, AllocError>
         ensures { IfOk result (λ world. world ≡ opening known.now eyes) }
     {

@@ -8,6 +8,7 @@ use super::{channel, scid, update};
 use lgm_graph::Known;
 use lgm_publish::{Eye, Pen, board};
 use lgm_store::{Map, Op};
+use lgm_test_gossip::is_as_made;
 use lgm_test_gossip::ops::node;
 use std::alloc::Global;
 use std::process::Abort;
@@ -18,7 +19,7 @@ use std::thread;
 use std::thread::Threads;
 
 /// Appends two operations and publishes them.
-fn publish_two<R: Wait>(rt: &R, pen: &mut Pen, first: Op, second: Op) -> bool
+fn publish_two<Rt: Wait>(rt: &Rt, pen: &mut Pen, first: Op, second: Op) -> bool
     ensures { pen.new.board ≡ pen.old.board }
 {
     let one = pen.append(first).is_ok();
@@ -28,7 +29,7 @@ fn publish_two<R: Wait>(rt: &R, pen: &mut Pen, first: Op, second: Op) -> bool
 }
 
 /// Appends an operation and publishes it.
-fn publish_one<R: Wait>(rt: &R, pen: &mut Pen, op: Op) -> bool
+fn publish_one<Rt: Wait>(rt: &Rt, pen: &mut Pen, op: Op) -> bool
     ensures { pen.new.board ≡ pen.old.board }
 {
     let appended = pen.append(op).is_ok();
@@ -37,8 +38,8 @@ fn publish_one<R: Wait>(rt: &R, pen: &mut Pen, op: Op) -> bool
 }
 
 /// A pen and its only eye, which learns what is published so far.
-fn pen_and_eye<R: Wait + RandomSource + Abort>(
-    rt: &R,
+fn pen_and_eye<Rt: Wait + RandomSource + Abort>(
+    rt: &Rt,
     alloc: Global,
     known: &Known,
 ) -> Result<(Pen, Eye), Fail> {
@@ -66,7 +67,7 @@ struct Story {
 }
 
 /// Two operations are published and then one, and then the channel is closed.
-fn watch<R: Wait>(rt: &R, mut pen: Pen, eye: Eye, (first, second, third): (Op, Op, Op)) -> Story {
+fn watch<Rt: Wait>(rt: &Rt, mut pen: Pen, eye: Eye, (first, second, third): (Op, Op, Op)) -> Story {
     let (eye, before) = look(eye);
     let two = publish_two(rt, &mut pen, first, second);
     let one = publish_one(rt, &mut pen, third);
@@ -126,8 +127,48 @@ fn an_eye_is_shown_what_was_published(rt: HostRuntime) -> Result<(), Fail> {
     Ok(())
 }
 
+/// Whether an eye is shown a view with the edges of one that is made of its map, and no others.
+fn has_its_view(alloc: Global, eye: Eye) -> (Eye, bool) {
+    match eye.enter() {
+        Ok(guard) => {
+            let same = is_as_made(alloc, guard.view(), guard.map(), &Known::all());
+            (guard.leave(), same == Ok(true))
+        }
+        Err(eye) => (eye, false),
+    }
+}
+
+/// Whether all was published, and the eye was shown such a view before it, after two operations, after one more, and once the
+/// channel is closed.
+fn are_as_made<Rt: Wait>(
+    rt: &Rt,
+    alloc: Global,
+    mut pen: Pen,
+    eye: Eye,
+    (one, two, three): (Op, Op, Op),
+) -> (bool, [bool; 4]) {
+    let (eye, first) = has_its_view(alloc, eye);
+    let both = publish_two(rt, &mut pen, one, two);
+    let (eye, second) = has_its_view(alloc, eye);
+    let more = publish_one(rt, &mut pen, three);
+    let (eye, third) = has_its_view(alloc, eye);
+    let closed = publish_one(rt, &mut pen, Op::Close(scid()));
+    let (_eye, last) = has_its_view(alloc, eye);
+    pen.end(rt);
+    (both && more && closed, [first, second, third, last])
+}
+
+#[test]
+fn a_guard_has_the_edges_of_a_view_of_its_map(rt: HostRuntime) -> Result<(), Fail> {
+    let alloc = rt.alloc();
+    let ops = (channel(alloc)?, update(alloc, 0)?, update(alloc, 1)?);
+    let (pen, eye) = pen_and_eye(&rt, alloc, &Known::all())?;
+    assert_eq!(rt; are_as_made(&rt, alloc, pen, eye, ops), (true, [true; 4]));
+    Ok(())
+}
+
 /// How many edges a guard's view has once these are published.
-fn edges_of<R: Wait>(rt: &R, mut pen: Pen, eye: Eye, ops: (Op, Op, Op)) -> Option<usize> {
+fn edges_of<Rt: Wait>(rt: &Rt, mut pen: Pen, eye: Eye, ops: (Op, Op, Op)) -> Option<usize> {
     let (first, second, third) = ops;
     let two = publish_two(rt, &mut pen, first, second);
     let one = publish_one(rt, &mut pen, third);
@@ -153,8 +194,8 @@ fn views_are_under_the_known_features(rt: HostRuntime) -> Result<(), Fail> {
 }
 
 /// A pen and two eyes, neither of which learns anything.
-fn pen_and_two_eyes<R: Wait + RandomSource + Abort>(
-    rt: &R,
+fn pen_and_two_eyes<Rt: Wait + RandomSource + Abort>(
+    rt: &Rt,
     alloc: Global,
 ) -> Result<(Pen, Eye, Eye), Fail> {
     let (pen, mut eyes) = board(rt, alloc, 2, &Known::all())?;
@@ -209,8 +250,8 @@ struct Told {
 }
 
 /// Two operations are published, and then one; one eye learns of it.
-fn watch_two<R: Wait + RandomSource + Abort>(
-    rt: &R,
+fn watch_two<Rt: Wait + RandomSource + Abort>(
+    rt: &Rt,
     alloc: Global,
     (one, two, three, four): (Op, Op, Op, Op),
     bytes: &[u8],
@@ -268,8 +309,8 @@ fn look_twice(first: Eye, second: Eye) -> Option<(Shown, Shown, bool)> {
 }
 
 /// What a guard shows while another thread publishes twice, and how much is published in the end.
-fn watch_beside<R: Wait + Threads>(
-    rt: &R,
+fn watch_beside<Rt: Wait + Threads>(
+    rt: &Rt,
     mut pen: Pen,
     eyes: (Eye, Eye),
     (one, two, three): (Op, Op, Op),
@@ -310,7 +351,7 @@ fn a_guard_is_held_over_a_publication(rt: HostRuntime) -> Result<(), Fail> {
 }
 
 /// The version of a guard that is kept over one publication, and that of the next one.
-fn hold_over_one<R: Wait>(rt: &R, pen: &mut Pen, eye: Eye, op: Op) -> Option<(u64, u64)> {
+fn hold_over_one<Rt: Wait>(rt: &Rt, pen: &mut Pen, eye: Eye, op: Op) -> Option<(u64, u64)> {
     let guard = match eye.enter() {
         Ok(guard) => guard,
         Err(_eye) => return None,
@@ -334,7 +375,7 @@ fn one_publication_waits_for_no_guard(rt: HostRuntime) -> Result<(), Fail> {
 }
 
 /// Publishes each operation by itself, and returns what the eye is shown then.
-fn publish_each<R: Wait>(rt: &R, mut pen: Pen, eye: Eye, ops: Vec<Op>) -> Option<Shown> {
+fn publish_each<Rt: Wait>(rt: &Rt, mut pen: Pen, eye: Eye, ops: Vec<Op>) -> Option<Shown> {
     for op in ops {
         publish_one(rt, &mut pen, op);
     }

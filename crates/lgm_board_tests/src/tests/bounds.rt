@@ -1,7 +1,7 @@
 //! What a board takes: it is bounded by what there is, whatever has been.
 
 use lgm_gossip::Scid;
-use lgm_graph::Known;
+use lgm_graph::{Known, RoutingGraph};
 use lgm_publish::{Eye, Pen, board};
 use lgm_store::Op;
 use lgm_test_gossip::ops::channel;
@@ -33,7 +33,7 @@ fn published_points(eye: Eye) -> (Eye, usize) {
 }
 
 /// The most points that are published.
-fn most_published<R: Wait>(rt: &R, mut pen: Pen, mut eye: Eye, ops: Vec<Op>) -> usize {
+fn most_published<Rt: Wait>(rt: &Rt, mut pen: Pen, mut eye: Eye, ops: Vec<Op>) -> usize {
     let mut most = 0;
     for op in ops {
         let _ = pen.append(op);

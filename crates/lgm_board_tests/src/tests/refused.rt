@@ -16,7 +16,7 @@ fn append(pen: &mut Pen, op: Op) -> bool {
 }
 
 /// Publishes; if memory is refused nothing is published, and the next call publishes all.
-fn publish<R: Wait>(rt: &R, pen: &mut Pen) -> bool {
+fn publish<Rt: Wait>(rt: &Rt, pen: &mut Pen) -> bool {
     let before = pen.published();
     pen.publish(rt).is_ok() || (pen.published() == before && pen.publish(rt).is_ok())
 }

@@ -16,13 +16,13 @@ const BYTES: [u8; 16] = *b"\x01\x02\x03\x04\x05\x06\x07\x08\x09\x0a\x0b\x0c\x0d\
 
 /// A runtime whose random bytes are known.
 #[derive(Drop)]
-struct Predicted<'a, R> {
-    rt: &'a R,
+struct Predicted<'a, Rt> {
+    rt: &'a Rt,
 }
 
-impl<R: Wait> Wait for Predicted<'_, R> {}
+impl<Rt: Wait> Wait for Predicted<'_, Rt> {}
 
-impl<R> RandomSource for Predicted<'_, R> {
+impl<Rt> RandomSource for Predicted<'_, Rt> {
     fn fill_bytes(&self, buf: &mut [u8]) -> io::Result<()> {
         for (byte, known) in buf.iter_mut().zip(&BYTES) {
             *byte = *known;
@@ -53,7 +53,7 @@ fn channels(alloc: Global) -> Result<Vec<Op>, AllocError> {
 }
 
 /// What is published before each operation and behind the last one has this seed.
-fn assert_each<R: Wait + Abort>(rt: &R, pen: &mut Pen, mut eye: Eye, ops: Vec<Op>) {
+fn assert_each<Rt: Wait + Abort>(rt: &Rt, pen: &mut Pen, mut eye: Eye, ops: Vec<Op>) {
     for op in ops {
         eye = assert_published(rt, eye);
         let _ = pen.append(op);

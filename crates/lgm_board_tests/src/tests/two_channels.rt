@@ -16,7 +16,6 @@ pub fn first_channel() -> Channel<'static> {
     Channel::new(Scid::new(600_000, 0, 0), (node(0x0a), node(0x0b)))
 }
 
-/// The second channel.
 fn second_channel() -> Channel<'static> {
     Channel::new(Scid::new(600_000, 1, 0), (node(0x0b), node(0x0c)))
 }

@@ -1,9 +1,9 @@
 -- The commands of a script, line by line, as a `ParsedScript` stores them.
 use Rattle.std.specs.Prelude.{◌≡◌, ℕ, ◌+◌, ◌%◌, List, [], ◌∷◌, ◌++◌, length, map, slice_set, slice_index_or}
 use Rattle.lgm_route.specs.declared.request.Request.{Request as RouteRequest}
-use Rattle.lgm_script.specs.declared.item.Item.{Item}
-use Rattle.lgm_script.specs.declared.command.Command.{Command}
-use Rattle.lgm_script.specs.declared.command.Command.TheVariants as requests
+use Rattle.lgm_script.specs.declared.grammar.item.Item.{Item}
+use Rattle.lgm_script.specs.declared.grammar.command.Command.{Command}
+use Rattle.lgm_script.specs.declared.grammar.command.Command.TheVariants as requests
 use Rattle.lgm_answers.specs.Routing.{asked_route}
 use Rattle.lgm_live.specs.declared.parsed_script.LineAnswer.{LineAnswer}
 use Rattle.lgm_live.specs.declared.parsed_script.LineAnswer.TheVariants as line_answers
@@ -33,8 +33,8 @@ pub record Gathered : Type 0 where
   pub line_answers : List LineAnswer
 
 -- lists with one more item in one of them
-abbrev pub given : {T : Type 0} → List (List T) → ℕ → T → List (List T)
-given lists place item = slice_set lists place (slice_index_or lists place [] ++ item ∷ [])
+abbrev pub appended_to : {T : Type 0} → List (List T) → ℕ → T → List (List T)
+appended_to lists place item = slice_set lists place (slice_index_or lists place [] ++ item ∷ [])
 
 abbrev pub with_slot : Gathered → LineAnswer → Gathered
 with_slot so_far line_answer = record so_far { line_answers = so_far.line_answers ++ line_answer ∷ [] }
@@ -46,7 +46,7 @@ with_request so_far requests.Commit =
     record so_far { batches = so_far.batches ++ so_far.batch ∷ []; batch = [] }
 with_request so_far (requests.Route payment) =
     record so_far {
-      lists = given so_far.lists (so_far.payments % length so_far.lists) (asked_route payment);
+      lists = appended_to so_far.lists (so_far.payments % length so_far.lists) (asked_route payment);
       payments = so_far.payments + 1;
     }
 with_request so_far _ = so_far

@@ -2,7 +2,7 @@
 use Rattle.std.specs.Prelude.{◌≡◌, ◌≢◌, ℕ, ◌<◌, ◌≤◌, List, [], ◌∷◌, length, Option, Result, Err, IfSome, IfOk}
 use Rattle.lgm_script.specs.Device.{Input}
 use Rattle.lgm_script.specs.Output.{OutputState}
-use Rattle.lgm_script.specs.declared.command.Command.{Command}
+use Rattle.lgm_script.specs.declared.grammar.command.Command.{Command}
 use Rattle.lgm_answers.specs.Limits.{most_lines}
 use Rattle.lgm_answers.specs.Script.{commands_of}
 use Rattle.lgm_answers.specs.declared.run_fault.RunFault.{RunFault}
@@ -21,10 +21,10 @@ pub record IsAsked (asked : List Command) (script : List ℕ) : Type 0 where
   pub all : asked ≡ commands_of script
 
 -- all commands of a script were added
-pub record IsNoted (script : Option (List ℕ)) (old new : Gathered) : Type 0 where
+pub record AreAdded (script : Option (List ℕ)) (old new : Gathered) : Type 0 where
   pub asked : List Command
   pub few : length asked ≤ most_lines
-  pub noted : new ≡ with_lines old asked
+  pub added : new ≡ with_lines old asked
   pub whole : IfSome script (IsAsked asked)
 
 -- the parsed script has all commands of a script, for this many workers

@@ -1,14 +1,15 @@
 -- The same text, line by line, as it is written.
 use Rattle.std.specs.Prelude.{ℕ, zero, suc, ◌+◌, ◌<◌, Bool, true, false, List, [], ◌++◌, length}
-use Rattle.std.specs.Prelude.{take, Option, Some, None, IsSome, codes, count_by, slice_index_or}
+use Rattle.std.specs.Prelude.{take, Option, Some, None, IsSome, IfSome, codes, count_by, slice_index_or}
 use Rattle.lgm_script.specs.Text.{word_line, commit_line}
 use Rattle.lgm_answers.specs.Answer.{outcome_text, route_text}
 use Rattle.lgm_live.specs.declared.report.LiveAnswer.{LiveAnswer}
 use Rattle.lgm_live.specs.declared.report.LiveReport.{LiveReport}
 use Rattle.lgm_live.specs.declared.parsed_script.LineAnswer.{LineAnswer}
 use Rattle.lgm_live.specs.declared.parsed_script.LineAnswer.TheVariants as line_answers
-use Rattle.lgm_live.specs.declared.write_answers.ReportPlace.{ReportPlace}
+use Rattle.lgm_live.specs.declared.report_place.ReportPlace.{ReportPlace}
 use Rattle.lgm_live.specs.Text.{answer_at, at_line}
+use Rattle.lgm_live.specs.Freshness.{HasBatches}
 
 abbrev pub is_item : LineAnswer → Bool
 is_item line_answers.Item = true
@@ -68,6 +69,18 @@ abbrev pub AreThere : ℕ → LiveReport → List LineAnswer → Type 0
 AreThere workers report all =
     (k : ℕ) → k < length all
     → IsThere workers report (place_behind (take k all)) (slice_index_or all k line_answers.Quiet)
+
+-- what a payment's line refers to is on a map with the batches before it
+abbrev pub IsFreshThere : ℕ → LiveReport → ReportPlace → LineAnswer → Type 0
+IsFreshThere workers report place (line_answers.Payment secret) =
+    IfSome (answer_at workers report.answers.items place.payments) (HasBatches report place.ends)
+IsFreshThere workers report place _ = Unit {0}
+
+-- and so with each of the first n lines
+abbrev pub AreFreshThere : ℕ → LiveReport → List LineAnswer → ℕ → Type 0
+AreFreshThere workers report all n =
+    (k : ℕ) → k < n
+    → IsFreshThere workers report (place_behind (take k all)) (slice_index_or all k line_answers.Quiet)
 
 -- the text of the first k lines
 unfoldable pub slots_before : ℕ → LiveReport → List LineAnswer → ℕ → List ℕ

@@ -2,16 +2,14 @@
 use Rattle.std.specs.Prelude.{◌≡◌, ◌≤◌, List, length, map, All}
 use Rattle.std.specs.Result.{result_err}
 use Rattle.lgm_wire.specs.declared.chain_hash.ChainHash.{ChainHash}
-use Rattle.lgm_script.specs.declared.item.Item.{Item}
-use Rattle.lgm_store.specs.History.{fold}
+use Rattle.lgm_script.specs.declared.grammar.item.Item.{Item}
 use Rattle.lgm_store.specs.declared.op.Op.{Op}
 use Rattle.lgm_answers.specs.Outcomes.{outcomes, history_of}
 use Rattle.lgm_live.specs.Batches.{items_of, ends_of}
 use Rattle.lgm_live.specs.declared.writer.WriterResult.{WriterResult}
 
--- the map is that of the accepted items, and each item has its outcome
+-- each item has its outcome, and these are the operations of those that were accepted
 pub record IsWritten (chain : ChainHash) (items : List Item) (written : WriterResult) : Type 0 where
-  pub rows : written.map.value ≡ fold (history_of chain items)
   pub outcomes : written.outcomes.items ≡ map result_err (outcomes chain items)
   pub ops : written.ops.items ≡ history_of chain items
 

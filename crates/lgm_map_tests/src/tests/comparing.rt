@@ -154,7 +154,7 @@ fn compare_range(
     Ok(())
 }
 
-/// All that a map's calls read. The only error is out of memory.
+/// All that a map's calls read.
 pub fn compare(rt: &impl Abort, alloc: Global, map: &Map, plain: &Plain) -> Result<(), AllocError> {
     compare_channels(rt, map, plain);
     compare_updates(rt, map, plain);

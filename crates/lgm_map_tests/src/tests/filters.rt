@@ -28,7 +28,6 @@ fn take_lines(alloc: Global, map: &mut Map, lines: &str) -> Result<(), Fail> {
     Ok(())
 }
 
-/// The map of these items.
 fn map_of(alloc: Global, lines: &str) -> Result<Box<Map>, Fail> {
     let mut map = empty_map(alloc)?;
     take_lines(alloc, &mut map, lines)?;

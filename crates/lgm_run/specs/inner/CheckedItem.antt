@@ -9,10 +9,10 @@ use Rattle.lgm_check.specs.Precheck.{checked_of}
 use Rattle.lgm_store.specs.declared.op.Op.{Op}
 use Rattle.lgm_store.specs.Rows.{Rows}
 use Rattle.lgm_store.specs.Admission.{admitted, admitted_close}
-use Rattle.lgm_script.specs.declared.item.Item.{Item}
-use Rattle.lgm_script.specs.declared.item.Item.TheVariants as items
-use Rattle.lgm_script.specs.declared.line_form.LineKind.TheVariants as kinds
-use Rattle.lgm_script.specs.declared.command.Command.{Command}
+use Rattle.lgm_script.specs.declared.grammar.item.Item.{Item}
+use Rattle.lgm_script.specs.declared.grammar.item.Item.TheVariants as items
+use Rattle.lgm_script.specs.declared.grammar.line_form.LineKind.TheVariants as kinds
+use Rattle.lgm_script.specs.declared.grammar.command.Command.{Command}
 use Rattle.lgm_script.specs.Command.{item_in}
 use Rattle.lgm_script.specs.Groups.{IsOfKind}
 use Rattle.lgm_run.specs.declared.checked_item.CheckedItem.{CheckedItem}

@@ -1,7 +1,7 @@
 -- How a group of lines advances a script.
 use Rattle.std.specs.Prelude.{◌≡◌, ◌≢◌, ℕ, ◌<◌, ◌≤◌, List, length, Option, Result, Err, IfOk, IfErr, IfSome}
 use Rattle.lgm_wire.specs.declared.chain_hash.ChainHash.{ChainHash}
-use Rattle.lgm_script.specs.declared.command.Command.{Command}
+use Rattle.lgm_script.specs.declared.grammar.command.Command.{Command}
 use Rattle.lgm_script.specs.Groups.{AskNext}
 use Rattle.lgm_script.specs.Device.{Input}
 use Rattle.lgm_script.specs.Output.{OutputState, Tells, TellsSome}

@@ -6,8 +6,8 @@ use Rattle.lgm_store.specs.declared.op.Op.{Op}
 use Rattle.lgm_store.specs.Rows.{empty}
 use Rattle.lgm_store.specs.History.{absorbed}
 use Rattle.lgm_query.specs.declared.filter.Filter.{Filter}
-use Rattle.lgm_script.specs.declared.command.Command.{Command}
-use Rattle.lgm_script.specs.declared.command.Command.TheVariants as requests
+use Rattle.lgm_script.specs.declared.grammar.command.Command.{Command}
+use Rattle.lgm_script.specs.declared.grammar.command.Command.TheVariants as requests
 use Rattle.lgm_query.specs.declared.request.RequestFault.{RequestFault}
 use Rattle.lgm_script.specs.Text.{word_line}
 use Rattle.lgm_answers.specs.Answer.{commit_text}

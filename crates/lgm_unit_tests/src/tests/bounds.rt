@@ -2,7 +2,7 @@
 
 use super::memory::most_memory;
 use lgm_gossip::Scid;
-use lgm_graph::{Known, Network};
+use lgm_graph::{Known, Network, RoutingGraph};
 use lgm_store::{Map, Op, Seed};
 use lgm_test_gossip::empty_map;
 use lgm_test_gossip::ops::channel;
@@ -67,7 +67,6 @@ fn once_large(alloc: Global) -> Result<Box<Map>, AllocError> {
     Ok(map)
 }
 
-/// A copy of a map.
 fn copied(alloc: Global, map: &Map) -> Result<Box<Map>, AllocError> {
     Ok(Box::new(alloc, map.copy(alloc)?)?)
 }

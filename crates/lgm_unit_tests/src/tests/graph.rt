@@ -1,10 +1,10 @@
 //! `lgm_graph`: edges as operations change them, and views of them.
 
 use lgm_gossip::{Point, Scid};
-use lgm_graph::{Edge, Known, Network, View, fee};
+use lgm_graph::{Edge, Known, Network, RoutingGraph, View, fee};
 use lgm_store::{Map, Op, Seed};
 use lgm_test_gossip::ops::{ban, channel, node, update};
-use lgm_test_gossip::{FREE, Terms, point};
+use lgm_test_gossip::{FREE, Terms, have_same_rows, is_as_made, point};
 use lgm_timeline::Timeline;
 use std::alloc::{AllocError, Global};
 use std::test::Fail;
@@ -171,7 +171,6 @@ fn first_of(block: u32) -> Scid {
     Scid::from_u64(u64::from(block).wrapping_mul(0x100_0000_0000))
 }
 
-/// The operation of a step.
 fn operation(alloc: Global, step: Step) -> Result<Op, AllocError> {
     match step {
         Step::Channel(block, nodes) => channel(alloc, first_of(block), nodes, 100_000, &[]),
@@ -184,57 +183,6 @@ fn operation(alloc: Global, step: Step) -> Result<Op, AllocError> {
     }
 }
 
-/// Whether an edge of one view and an edge of another have the same terms and are between the same points.
-fn is_same(view: &View, edge: &Edge, other_view: &View, other: &Edge) -> bool {
-    let from = view.point(edge.from);
-    let to = view.point(edge.to);
-    from.is_some()
-        && to.is_some()
-        && from == other_view.point(other.from)
-        && to == other_view.point(other.to)
-        && edge.scid == other.scid
-        && edge.second == other.second
-        && (edge.base, edge.millionths) == (other.base, other.millionths)
-        && (edge.delta, edge.min, edge.max) == (other.delta, other.min, other.max)
-}
-
-/// Whether a view has an edge of another view.
-fn has(view: &View, other_view: &View, other: &Edge) -> bool {
-    for place in 0..view.edge_count() {
-        if let Some(edge) = view.edge(place) {
-            if is_same(view, edge, other_view, other) {
-                return true;
-            }
-        }
-    }
-    false
-}
-
-/// Whether a view has each edge of another view, whose last is the one before the number of its edges.
-fn has_each(view: &View, other: &View) -> bool {
-    for place in 0..other.edge_count() {
-        match other.edge(place) {
-            Some(edge) => {
-                if !has(view, other, edge) {
-                    return false;
-                }
-            }
-            None => return false,
-        }
-    }
-    other.edge(other.edge_count()).is_none()
-}
-
-/// Whether a view has the edges of one that is made of the map, and no others.
-fn is_as_made(alloc: Global, view: &View, map: &Map, known: &Known) -> Result<bool, AllocError> {
-    if map.count() > 2_000_000_000 {
-        return Err(AllocError);
-    }
-    let made = View::of(alloc, map, known)?;
-    let count = view.edge_count() == made.edge_count();
-    Ok(count && has_each(view, &made) && has_each(&made, view))
-}
-
 /// Whether a network has its view, which is as one that is made of its map.
 fn has_its_view(alloc: Global, network: &Network) -> Result<bool, AllocError> {
     match network.view() {
@@ -243,15 +191,13 @@ fn has_its_view(alloc: Global, network: &Network) -> Result<bool, AllocError> {
     }
 }
 
-/// Absorbs an operation, a second time if memory was refused. Whether the refusal left the channels and the edges
-/// unchanged.
-fn absorb_or_again(network: &mut Network, op: &Op) -> Result<bool, AllocError> {
-    let channels = network.map().count();
-    let edges = edge_count(network);
+/// Absorbs an operation, a second time if memory was refused. Whether the refusal left all rows and edges unchanged.
+fn absorb_or_again(alloc: Global, network: &mut Network, op: &Op) -> Result<bool, AllocError> {
+    let before = network.map().copy(alloc)?;
     if network.absorb(op).is_ok() {
         return Ok(true);
     }
-    let same = network.map().count() == channels && edge_count(network) == edges;
+    let same = have_same_rows(network.map(), &before) && has_its_view(alloc, network)?;
     network.absorb(op)?;
     Ok(same)
 }
@@ -262,7 +208,7 @@ fn kept_edges(alloc: Global, steps: &[Step]) -> Result<(bool, Option<usize>), Al
     let mut network = empty(alloc, &Known::all())?;
     let mut same = true;
     for step in steps {
-        same = absorb_or_again(&mut network, &operation(alloc, *step)?)? && same;
+        same = absorb_or_again(alloc, &mut network, &operation(alloc, *step)?)? && same;
         same = has_its_view(alloc, &network)? && same;
     }
     Ok((same, edge_count(&network)))

@@ -73,7 +73,6 @@ fn payloads_read_back(rt: HostRuntime) -> Result<(), Fail> {
     Ok(())
 }
 
-/// The fault of bytes, if they have one.
 fn fault_of(alloc: Global, bytes: &[u8]) -> Option<PayloadFault> {
     read(alloc, bytes).err()
 }

@@ -1,4 +1,5 @@
-use Rattle.std.proofs.Common.{length, ap, ◌∙◌, arith}
+use Rattle.std.proofs.Common.{length, ap, ◌∙◌, arith, rules}
+use Rattle.std.specs.Prelude.{IsTrue}
 use Rattle.std.proofs.lemmas.List.{length-map}
 use Rattle.std.proofs.lemmas.List.FromFn.{length-map-range_with_len}
 use Rattle.std.proofs.lemmas.Result.{err_from_is_err_and}
@@ -62,7 +63,7 @@ pub write_answers-requires-clause-line_answers : goal.write_answers-requires-cla
 write_answers-requires-clause-line_answers g c =
     let read = c.in_ok-parsed.ensures.ok in
     let is =
-    reported c.args.pool.now.some read.is_parsed c.batches.ensures c.lists.ensures c.line_answers.ensures
+    reported c.args.pool.now.some read.is_parsed c.batches.ensures c.lists.ensures c.line_answers-line_answers.ensures
     c.in_ok-report.ensures.report in
     (omega (arith, read.few, ap length is.line_answers, length-map read.asked line_answer_of), there is)
 
@@ -71,12 +72,13 @@ returns-in_err-write_answers g c =
     let p = err_from_is_err_and c.from_residual-in_err-write_answers.result c.from_residual-in_err-write_answers.ensures.1 in
     let reads = c.in_ok-parsed.ensures in
     let is =
-    reported c.args.pool.now.some reads.ok.is_parsed c.batches.ensures c.lists.ensures c.line_answers.ensures
+    reported c.args.pool.now.some reads.ok.is_parsed c.batches.ensures c.lists.ensures c.line_answers-line_answers.ensures
     c.in_ok-report.ensures.report in
+    let fresh : IsTrue c.are_fresh.result = search rules in
     let part =
     in_part is (g.R.Source.seen c.args.source.now).left (g.W.Sink.seen c.args.output.now.writer.now).taken
     (g.W.Sink.seen c.read_script.new.output.writer.now).taken (g.W.Sink.seen c.write_answers.new.output.writer.now).taken
-    reads.ok.whole reads.silent c.in_err-write_answers.ensures.part in
+    reads.ok.whole reads.silent (c.are_fresh.ensures fresh) c.in_err-write_answers.ensures.part in
     rw (p.1, p.2) (record {
       writer = c.in_err-write_answers.ensures.writer ∙ reads.writer;
       runs = not_written c.args.chain.now c.args.known.now c.args.pool.now.workers
@@ -93,13 +95,14 @@ pub returns-clause-runs : goal.returns-clause-runs
 returns-clause-runs g c =
     let reads = c.in_ok-parsed.ensures in
     let is =
-    reported c.args.pool.now.some reads.ok.is_parsed c.batches.ensures c.lists.ensures c.line_answers.ensures
+    reported c.args.pool.now.some reads.ok.is_parsed c.batches.ensures c.lists.ensures c.line_answers-line_answers.ensures
     c.in_ok-report.ensures.report in
+    let fresh : IsTrue c.are_fresh.result = search rules in
     record {
       ok =
           whole is (g.R.Source.seen c.args.source.now).left (g.W.Sink.seen c.args.output.now.writer.now).taken
           (g.W.Sink.seen c.read_script.new.output.writer.now).taken (g.W.Sink.seen c.write_answers.new.output.writer.now).taken
-          reads.ok.whole reads.silent c.in_ok-write_answers.ensures.told;
+          reads.ok.whole reads.silent (c.are_fresh.ensures fresh) c.in_ok-write_answers.ensures.told;
       too_many = λ is. absurd cc;
       too_long = λ is. absurd cc;
       silent = tt;

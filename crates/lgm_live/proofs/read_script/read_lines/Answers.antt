@@ -14,7 +14,7 @@ loop-number-init g c = rw c.requires.lines (record {
   asked = [];
   within = omega arith;
   count = refl;
-  noted = refl;
+  added = refl;
   read_to = record {
     read_same = refl;
     write_same = refl;
@@ -43,12 +43,12 @@ returns-in_default g c =
     read_on inv.read_to c.next_line.new.lines (g.R.Source.seen c.next_line.new.source)
     (told_by g.W.Sink.seen c.next_line.new.output) line.kept
     (line.well (λ e. absurd cc)) (line.written (λ e. absurd cc)) in
-    all_read read_to c.args.parsed.now c.loop-number.parsed inv.noted (omega (arith, inv.count, inv.within))
+    all_read read_to c.args.parsed.now c.loop-number.parsed inv.added (omega (arith, inv.count, inv.within))
     (line.end (search rules))
 
-pub returns-in_err-note_line : goal.returns-in_err-note_line
-returns-in_err-note_line g c =
-    let p = err_from_is_err_and c.from_residual-in_err-note_line.result c.from_residual-in_err-note_line.ensures.1 in
+pub returns-in_err-add_first_line : goal.returns-in_err-add_first_line
+returns-in_err-add_first_line g c =
+    let p = err_from_is_err_and c.from_residual-in_err-add_first_line.result c.from_residual-in_err-add_first_line.ensures.1 in
     let line = c.in_ok-count.ensures in
     let read_to =
     read_on c.loop-number.invariant.read_to c.next_line.new.lines (g.R.Source.seen c.next_line.new.source)
@@ -56,19 +56,19 @@ returns-in_err-note_line g c =
     line.kept (line.well (λ e. absurd cc)) (line.written (λ e. absurd cc)) in
     rw (p.1, p.2) (no_memory read_to)
 
-pub note_line-requires-clause-some : goal.note_line-requires-clause-some
-note_line-requires-clause-some g c =
+pub add_first_line-requires-clause-some : goal.add_first_line-requires-clause-some
+add_first_line-requires-clause-some g c =
     let inv = c.loop-number.invariant in
-    omega (arith, c.requires.some, workers_are c.args.parsed.now inv.asked, ap (λ parsed. length parsed.lists) inv.noted)
+    omega (arith, c.requires.some, workers_are c.args.parsed.now inv.asked, ap (λ parsed. length parsed.lists) inv.added)
 
-pub note_line-requires-clause-few : goal.note_line-requires-clause-few
-note_line-requires-clause-few g c =
+pub add_first_line-requires-clause-few : goal.add_first_line-requires-clause-few
+add_first_line-requires-clause-few g c =
     let inv = c.loop-number.invariant in
     omega (
       arith,
       c.requires.none,
       payments_few c.args.parsed.now inv.asked,
-      ap (λ parsed. parsed.payments) inv.noted,
+      ap (λ parsed. parsed.payments) inv.added,
       inv.count,
       c.loop-number-test.true,
     )
@@ -88,10 +88,10 @@ loop-number-preserved g c =
       asked = inv.asked ++ request ∷ [];
       within = omega (arith, c.loop-number-test.true);
       count = omega (arith, inv.count, length-append inv.asked (request ∷ []));
-      noted =
-          c.in_ok-note_line.ensures.parsed ∙ ap (λ parsed. with_line parsed request) inv.noted
+      added =
+          c.in_ok-add_first_line.ensures.parsed ∙ ap (λ parsed. with_line parsed request) inv.added
           ∙ sym (with_lines-push c.args.parsed.now inv.asked request);
-      read_to = rw c.in_ok-note_line.ensures.lines (line_read read_to c.in-Some.count first small);
+      read_to = rw c.in_ok-add_first_line.ensures.lines (line_read read_to c.in-Some.count first small);
     }
 
 pub returns-in_err-more_begins : goal.returns-in_err-more_begins
@@ -120,5 +120,5 @@ returns g c =
     let read_to =
     read_on inv.read_to c.more_begins.new.lines (g.R.Source.seen c.more_begins.new.source) (told_by g.W.Sink.seen c.more_begins.new.output) more.kept
     (more.well (λ e. absurd cc)) (more.written (λ e. absurd cc)) in
-    all_read read_to c.args.parsed.now c.loop-number.parsed inv.noted (omega (arith, inv.count, inv.within))
+    all_read read_to c.args.parsed.now c.loop-number.parsed inv.added (omega (arith, inv.count, inv.within))
     (more.end (search rules))

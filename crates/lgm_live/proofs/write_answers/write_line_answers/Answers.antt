@@ -10,7 +10,7 @@ use Rattle.lgm_live.proofs.write_answers.write_line_answers.Goals as goal
 pub loop-line_answer-init : goal.loop-line_answer-init
 loop-line_answer-init g c = record {
   number = refl;
-  place = refl;
+  place = c.first-place.ensures;
   told = rw (no_text c.args.workers c.args.report.now c.args.line_answers.now) (tells_nothing (told_by g.W.Sink.seen c.args.output.now));
 }
 

@@ -10,8 +10,8 @@ use Rattle.lgm_store.specs.declared.op.Op.{Op}
 use Rattle.lgm_store.specs.Rows.{Rows}
 use Rattle.lgm_store.specs.Admission.{admitted, Offers}
 use Rattle.lgm_store.proofs.Verdicts.{offers_gives}
-use Rattle.lgm_script.specs.declared.item.Item.{Item}
-use Rattle.lgm_script.specs.declared.item.Item.TheVariants.{Gossip}
+use Rattle.lgm_script.specs.declared.grammar.item.Item.{Item}
+use Rattle.lgm_script.specs.declared.grammar.item.Item.TheVariants.{Gossip}
 use Rattle.lgm_answers.specs.Outcomes.{outcome_of}
 use Rattle.lgm_live.proofs.writer.admit.Goals as goal
 

@@ -2,7 +2,8 @@ use Rattle.std.proofs.Common.{refl, ℕ, ◌<◌, ◌≤◌, List, [], ◌∷◌
 use Rattle.std.specs.Prelude.{All}
 use Rattle.std.proofs.lemmas.List.Elements.{All-push, All-weaker}
 use Rattle.std.proofs.lemmas.List.Folds.{length-flat_map-take}
-use Rattle.lgm_script.specs.declared.item.Item.{Item}
+use Rattle.lgm_store.specs.History.{fold}
+use Rattle.lgm_script.specs.declared.grammar.item.Item.{Item}
 use Rattle.lgm_live.specs.Batches.{items_of, ends_of}
 use Rattle.lgm_live.specs.inner.WriterResult.{IsWritten}
 use Rattle.lgm_live.proofs.Items.{items_more, ends_more}
@@ -10,19 +11,20 @@ use Rattle.lgm_live.proofs.writer.publish_batches.Goals as goal
 
 pub loop-batch-init : goal.loop-batch-init
 loop-batch-init g c =
-    let made = c.in_ok-written.ensures in
+    let made = c.new-written.ensures in
     record {
       written = made.written c.args.chain.now;
+      map = c.in_ok-map.ensures ∙ ap fold (sym made.none);
       ends = made.ends;
-      within = subst (All (λ end. end ≤ length c.in_ok-written.written.ops.items)) (sym made.ends) (λ k d below. absurd (omega (arith, below)));
+      within = subst (All (λ end. end ≤ length c.new-written.result.ops.items)) (sym made.ends) (λ k d below. absurd (omega (arith, below)));
       few = omega (arith, ap length made.none);
       board = refl;
       published = c.requires.pen.0 ∙ sym made.none;
       pending = c.requires.pen.1;
     }
 
-pub take_batch-requires-clause-few : goal.take_batch-requires-clause-few
-take_batch-requires-clause-few g c κs within =
+pub publish_batch-requires-clause-few : goal.publish_batch-requires-clause-few
+publish_batch-requires-clause-few g c κs within =
     let batches = c.args.batches.now in
     let i = c.loop-batch.batch-index in
     let below : i < length batches = c.loop-batch-test.true in
@@ -40,8 +42,8 @@ loop-batch-preserved g c =
     let chain = c.args.chain.now in
     let i = c.loop-batch.batch-index in
     let before = c.loop-batch.invariant in
-    let after = c.in_ok-take_batch.ensures in
-    let written = c.take_batch.new.self in
+    let after = c.in_ok-publish_batch.ensures in
+    let written = c.publish_batch.new.self in
     let below : i < length batches = c.loop-batch-test.true in
     let more =
     ap (λ (b : List Item). items_of (take i batches) ++ b) c.as_slice.ensures
@@ -49,6 +51,7 @@ loop-batch-preserved g c =
     let done = subst (λ (items : List Item). IsWritten chain items written) more (after.written (items_of (take i batches)) before.written) in
     record {
       written = done;
+      map = after.map;
       ends = after.ends ∙ ap (λ (ends : List ℕ). ends ++ length written.ops.items ∷ []) before.ends
           ∙ ap (λ n. ends_of chain (take i batches) ++ n ∷ []) (ap length done.ops)
           ∙ sym (ends_more chain batches i c.batch-item.result below c.batch-item.is);

@@ -3,7 +3,7 @@ use Rattle.std.specs.List.{AllZip}
 use Rattle.std.proofs.lemmas.List.{nil_from_length}
 use Rattle.std.proofs.lemmas.Result.{err_from_is_err_and}
 use Rattle.std.proofs.lemmas.Slice.Zip.{AllZip-long}
-use Rattle.lgm_script.specs.declared.line_form.LineKind.TheVariants.{Item}
+use Rattle.lgm_script.specs.declared.grammar.line_form.LineKind.TheVariants.{Item}
 use Rattle.lgm_script.specs.Command.{item_in}
 use Rattle.lgm_script.specs.Groups.{IsOfKind}
 use Rattle.lgm_script.proofs.WrittenTextLaws.{tells_none, onward_first}

@@ -7,4 +7,4 @@ use Rattle.lgm_run.proofs.checked_item.check_lines.Goals as goal
 pub returns : goal.returns
 returns g c =
     zip_weaker_ok _ (λ request item. IsCheckOf c.args.context.now.chain (item_in request) item) (λ x y h. search rules)
-    c.args.group.now.lines.items c.map.result (rw c.as_slice.ensures.value at c.map.ensures)
+    c.args.group.now.lines.items c.map.result (rw c.as_slice-lines.ensures.value at c.map.ensures)

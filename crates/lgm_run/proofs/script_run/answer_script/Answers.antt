@@ -13,12 +13,6 @@ returns-in_err-made-clause-runs g c =
     rw (p.1, p.2) (nothing_ran c.args.context.now.chain c.args.known.now (g.R.Source.seen c.args.source.now)
     (g.W.Sink.seen c.args.output.now.writer.now))
 
-pub returns-in_err-engine-clause-runs : goal.returns-in_err-engine-clause-runs
-returns-in_err-engine-clause-runs g c =
-    let p = err_from_is_err_and c.from_residual-in_err-engine.result c.from_residual-in_err-engine.ensures.1 in
-    rw (p.1, p.2) (nothing_ran c.args.context.now.chain c.args.known.now (g.R.Source.seen c.args.source.now)
-    (g.W.Sink.seen c.args.output.now.writer.now))
-
 -- it is the sink that the lines were answered to
 pub returns-clause-writer : goal.returns-clause-writer
 returns-clause-writer g c =
@@ -41,7 +35,7 @@ returns-clause-runs g c =
     let result = c.flush_answers.result in
     let told = c.answer_lines-answered.ensures in
     let ended = c.flush_answers.ensures in
-    let known = ap (λ state. state.known) (c.in_ok-engine.ensures ∙ c.in_ok-made.ensures) in
+    let known = ap (λ state. state.known) (c.deref_mut.ensures.value ∙ ap (λ boxed. boxed.value) c.insert-engine.ensures.value ∙ c.in_ok-made.ensures) in
     record {
       ok = ok_written chain bits script old mid new answered result c.requires ended
           (subst (λ k. IfOk answered (λ counts. IfSome script (IsAnswered chain k (Tells old mid) counts))) known told.ok);

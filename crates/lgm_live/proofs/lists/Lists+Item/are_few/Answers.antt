@@ -1,7 +1,7 @@
 use Rattle.std.proofs.Common.{◌≡◌, ◌+◌, ◌≤◌, List, length, take, ap, subst, sym, ◌∙◌, arith}
 use Rattle.std.proofs.lemmas.List.Folds.{length-flat_map-take}
 use Rattle.lgm_board.specs.declared.snapshot.TheConstants.{MAX_OPERATIONS}
-use Rattle.lgm_script.specs.declared.item.Item.{Item}
+use Rattle.lgm_script.specs.declared.grammar.item.Item.{Item}
 use Rattle.lgm_live.specs.Batches.{items_of}
 use Rattle.lgm_live.proofs.lists.Lists+Item.are_few.Goals as goal
 
