@@ -5,8 +5,8 @@
  * and funding outputs. It finds routes for payments, with their payloads, and answers the queries and filters of peers.
  * A published map has what a map had when lgm_publish made it, for good: each thread that is to read while another one
  * extends the map has a handle of it. The same calls answer of both, but those that change a map return LGM_PUBLISHED of a
- * published one. A handle of another kind (lgm_estimates) has what a payer has learnt of edges. docs/embedding.md is a
- * guide; docs/protocol.md has the rules.
+ * published one. Handles of other kinds have what was learnt of edges (lgm_estimates), and a payer with its payments
+ * (lgm_payer). docs/embedding.md is a guide; docs/protocol.md has the rules.
  *
  * What is proved holds for callers that meet these conditions, which nothing checks:
  *
@@ -20,7 +20,8 @@
  *   - A handle is used by one call at a time, from any thread: what it holds is proved to be `Send`. Calls from different
  *     threads on one handle are ordered by a lock, a thread's start or join, or a sequentially consistent atomic.
  *     Different handles need no order, also those that share a published map.
- *   - An open handle is freed by lgm_free, or lgm_estimates_free, before it goes out of scope; otherwise its memory leaks.
+ *   - An open handle is freed by lgm_free, lgm_estimates_free or lgm_payer_free before it goes out of scope; otherwise its
+ *     memory leaks.
  *   - A bool is true or false.
  *   - malloc, realloc and free are those of one allocator, and behave as the C standard says.
  *   - No call is made from a signal handler, or in the child of a fork of a process with threads.
@@ -49,18 +50,20 @@ extern "C" {
 #endif
 
 /*
- * What a call returns: LGM_OK, LGM_SO_FAR, or the number of the first fault. After a fault the map is unchanged, or what is
- * known of edges, and so are the buffers, except for the lengths that are written with LGM_ROOM, and the node of lgm_node.
- * LGM_SO_FAR is no fault: the buffers are written as with LGM_OK.
+ * What a call returns: LGM_OK, LGM_SO_FAR, LGM_WHOLE, or the number of the first fault. After a fault the map is unchanged, or
+ * the payer, or what is known of edges, and so are the buffers, except for the lengths that are written with LGM_ROOM, the node
+ * of lgm_node, the `detail` of lgm_payer_next, and what lgm_prune had closed when memory ran out. LGM_SO_FAR is no fault: the
+ * buffers are written as with LGM_OK.
  *
  * LGM_NO_MEMORY comes only if the call would have succeeded, or returned LGM_ROOM, or was to search for a route, to make
- * payloads, or to decode a query or a reply with lists: any other fault is returned even if memory is short. lgm_filter
- * returns LGM_ROOM even then.
+ * payloads, to open what was saved, or to decode a query or a reply with lists: any other fault is returned even if memory is
+ * short. lgm_filter returns LGM_ROOM even then.
  */
 enum {
     /* Done: the call has done what it is for. */
     LGM_OK = 0,
     LGM_SO_FAR = 27, /* the route that was written may not be the best one, since labels or steps ran out */
+    LGM_WHOLE = 28,  /* no part is to be sent: all of the amount is under way, or the payee took it */
 
     /* Refused: a message or a close is refused, for the first of these reasons (docs/script.md, "Refusals of items"). */
     LGM_MALFORMED = 1,        /* it is no well-formed message, as lgm_fault_of says */
@@ -97,6 +100,30 @@ enum {
     LGM_BEYOND_HOPS = 47,            /* nothing within the limit of the hops does */
     LGM_BEYOND_BOTH = 48,            /* nothing within both limits does */
 
+    /* Unpaid: no part of a payment can be sent (lgm_payer_next). Parts that are under way are still to be waited for. */
+    LGM_TOO_DEAR = 71,       /* the cheapest route has a fee beyond what the bound leaves */
+    LGM_CHANNELS_SHORT = 72, /* the payer's channels can't send what is left, in however many parts */
+    LGM_PAYEE_SHORT = 73,    /* the edges into the payee can't carry what is left, in however many parts */
+    LGM_TRIES_USED_UP = 74,  /* as many parts as the bound allows were sent */
+    LGM_PAYEE_REFUSED = 75,  /* the payee returned a failure that no other try mends */
+    LGM_ABANDONED = 76,      /* the payment was abandoned */
+    LGM_PATHS_SHORT = 77,    /* the paths from the payer to the payee can't carry what is left, in however many parts */
+
+    /* Untold: a payer can't be told this of a payment. */
+    LGM_UNKNOWN_PAYMENT = 81,   /* no payment has this number: none was begun with it, or it was forgotten */
+    LGM_UNKNOWN_PART = 82,      /* the payment has no part with this number */
+    LGM_NOT_UNDER_WAY = 83,     /* the part isn't under way: it failed before, or has arrived */
+    LGM_BEYOND_ROUTE = 84,      /* the failure is said to be of a node beyond the part's route */
+    LGM_FOREIGN_CODE = 85,      /* the node at this place doesn't send this failure code */
+    LGM_NOTHING_UNDER_WAY = 86, /* nothing of the payment is under way, so the payee can't have taken it */
+    LGM_ALREADY_PAID = 87,      /* the payee took the whole before */
+    LGM_UNDER_WAY = 88,         /* parts of the payment are under way, so it can't be forgotten */
+    LGM_FOREIGN_CHANNEL = 89,   /* one of the payer's channels, as they were told, doesn't leave the payer */
+    LGM_RECKONED_AHEAD = 90,    /* the payer's channels are said to reckon parts that weren't sent yet */
+    LGM_RECKONED_BEFORE = 91,   /* the payer's channels don't reckon parts of a paid payment that was forgotten */
+    LGM_NO_PARTS = 92,          /* the bound allows no part to be under way */
+    LGM_NUMBERS_USED_UP = 93,   /* 2^64 - 1 payments were begun, or parts sent */
+
     /* First fault: why a message is malformed (lgm_fault_of; docs/protocol.md, "The first fault of a malformed message"). */
     LGM_FAULT_LONG = 51,            /* it has more than 65,535 bytes */
     LGM_FAULT_SHORT = 52,           /* it has fewer than the two bytes of a type */
@@ -115,6 +142,8 @@ enum {
     LGM_NOT_QUERY = 31,     /* the message is neither a 261 nor a 263 */
     LGM_NOT_FILTER = 32,    /* the message isn't a 265 */
     LGM_NOT_ANNOUNCED = 33, /* the map has no announcement of the node */
+    LGM_NOT_SAVED = 34,     /* the bytes aren't those of a saved map of this chain, payer or estimates, as they were written */
+    LGM_NOT_REPLY = 35,     /* the message isn't a 264 */
     LGM_CLOSED = 100,       /* the handle is closed */
     LGM_OPEN = 101,         /* the handle is open already */
     LGM_NO_MEMORY = 102,    /* out of memory: the same call may be made again */
@@ -148,7 +177,7 @@ typedef struct {
 } lgm_map;
 
 /* The version of this header. */
-#define LGM_VERSION 4
+#define LGM_VERSION 5
 
 /* The version of the library, to be compared with LGM_VERSION. */
 uint32_t lgm_version(void);
@@ -193,6 +222,8 @@ static inline const char *lgm_text(uint32_t number) {
     case LGM_NOT_QUERY: return "not-query";
     case LGM_NOT_FILTER: return "not-filter";
     case LGM_NOT_ANNOUNCED: return "not-announced";
+    case LGM_NOT_SAVED: return "not-saved";
+    case LGM_NOT_REPLY: return "not-reply";
     case LGM_PAYER_HAS_NO_CHANNEL: return "payer-has-no-channel";
     case LGM_PAYEE_TAKES_NO_PAYMENT: return "payee-takes-no-payment";
     case LGM_PAYER_LACKS_AMOUNT: return "payer-lacks-amount";
@@ -201,6 +232,27 @@ static inline const char *lgm_text(uint32_t number) {
     case LGM_BEYOND_DELAY: return "beyond-delay";
     case LGM_BEYOND_HOPS: return "beyond-hops";
     case LGM_BEYOND_BOTH: return "beyond-both";
+    case LGM_WHOLE: return "whole";
+    case LGM_TOO_DEAR: return "too-dear";
+    case LGM_CHANNELS_SHORT: return "channels-short";
+    case LGM_PAYEE_SHORT: return "payee-short";
+    case LGM_TRIES_USED_UP: return "tries-used-up";
+    case LGM_PAYEE_REFUSED: return "payee-refused";
+    case LGM_ABANDONED: return "abandoned";
+    case LGM_PATHS_SHORT: return "paths-short";
+    case LGM_UNKNOWN_PAYMENT: return "unknown-payment";
+    case LGM_UNKNOWN_PART: return "unknown-part";
+    case LGM_NOT_UNDER_WAY: return "not-under-way";
+    case LGM_BEYOND_ROUTE: return "beyond-route";
+    case LGM_FOREIGN_CODE: return "foreign-code";
+    case LGM_NOTHING_UNDER_WAY: return "nothing-under-way";
+    case LGM_ALREADY_PAID: return "already-paid";
+    case LGM_UNDER_WAY: return "under-way";
+    case LGM_FOREIGN_CHANNEL: return "foreign-channel";
+    case LGM_RECKONED_AHEAD: return "reckoned-ahead";
+    case LGM_RECKONED_BEFORE: return "reckoned-before";
+    case LGM_NO_PARTS: return "no-parts";
+    case LGM_NUMBERS_USED_UP: return "numbers-used-up";
     case LGM_FAULT_LONG: return "long";
     case LGM_FAULT_SHORT: return "short";
     case LGM_FAULT_CUT: return "cut";
@@ -256,6 +308,30 @@ uint32_t lgm_open(lgm_map *map, const uint8_t chain[32], bool all_known, const u
  */
 void lgm_free(lgm_map *map);
 
+/*
+ * Writes the map of a handle as bytes, with its chain, a version and a checksum, and their length to `needed`: what lgm_load
+ * opens. They have its channels, updates and nodes as they were received, and its bans. A published map is saved, too: so a
+ * thread saves it while another one extends the map. The bytes tell what was changed by mistake, or cut; they are no
+ * signature, so keep them where nobody else writes.
+ *
+ * Cost: a pass over the whole map. With room for the bytes no copy of them is made.
+ *
+ * LGM_CLOSED; LGM_ROOM; LGM_NO_MEMORY.
+ */
+uint32_t lgm_save(lgm_map *map, uint8_t *bytes, size_t bytes_len, size_t *needed);
+
+/*
+ * Opens a closed handle with the map of this chain that was saved as these bytes, and sets its mark there. `all_known`,
+ * `known` and `seed` are those of lgm_open, and needn't be those of the map that was saved. It has accepted nothing yet:
+ * lgm_version_of counts from 0. Signatures and funding outputs aren't verified again.
+ *
+ * Cost: log n for each channel, update, node and ban. The next message, close or ban copies the index, as after lgm_mark.
+ *
+ * LGM_OPEN; LGM_NOT_SAVED, of bytes that were cut or changed, or are of another version or chain; LGM_NO_MEMORY.
+ */
+uint32_t lgm_load(lgm_map *map, const uint8_t chain[32], bool all_known, const uint8_t *known, size_t known_len,
+                  const uint8_t seed[16], const uint8_t *bytes, size_t bytes_len);
+
 /* The verdict on a message's signatures: four of a channel_announcement, one of any other. */
 enum {
     LGM_SIG_ALL_FOUR = 0,     /* all four are valid */
@@ -308,6 +384,35 @@ uint32_t lgm_wanted(lgm_map *map, const uint8_t *message, size_t message_len, ui
  */
 uint32_t lgm_fault_of(const uint8_t *message, size_t message_len);
 
+/* A message, as who verifies it sees it. */
+typedef struct {
+    uint64_t scid;        /* the id of its channel, or 0 */
+    size_t signed_from;   /* where the bytes begin whose double SHA-256 is signed: they end where the message does */
+    uint32_t block;       /* the parts of the id: the height of the block with the funding transaction */
+    uint32_t transaction; /* the index of that transaction in the block */
+    uint16_t output;      /* the index of the funding output in it */
+    uint16_t type;        /* 256, a channel_announcement; 257, a node_announcement; 258, a channel_update; or another one */
+    bool has_scid;        /* whether it is of a channel: a channel_announcement or a channel_update */
+    bool is_second;       /* of a channel_update: whether node 2 of the channel signs it, and not node 1 */
+    uint8_t signatures;   /* how many it has, of 64 bytes each, one after the other from byte 2 on: 4, 1 or 0 */
+    uint8_t key_1[33];    /* the key of the first signature: of a channel_announcement node 1, of a node_announcement its node */
+    uint8_t key_2[33];    /* that of the second one, which a channel_announcement alone has: node 2 */
+    uint8_t key_3[33];    /* that of the third one: bitcoin_key_1 */
+    uint8_t key_4[33];    /* that of the fourth one: bitcoin_key_2 */
+} lgm_signed;
+
+/*
+ * Tells what a verifier needs of a message: its type, its channel, how many signatures it has, by which keys, and which bytes
+ * are signed. Bytes are counted from the type on, which has two. A channel_update doesn't name the key that signs it:
+ * lgm_wanted tells it. Where there is no key, `key_1` to `key_4` are zeros. Whether keys and signatures are right isn't
+ * looked at (BOLT 7, "The channel_announcement Message" and those of the other two).
+ *
+ * Cost: the message is read once.
+ *
+ * 1 to 3, of bytes that are no message; LGM_NO_MEMORY, of a query or a reply with lists alone.
+ */
+uint32_t lgm_reads(const uint8_t *message, size_t message_len, lgm_signed *read);
+
 /*
  * Closes a channel, because its funding output was spent: removes it with its updates, and the announcement of each of
  * its nodes that has no other channel.
@@ -328,6 +433,28 @@ uint32_t lgm_close_channel(lgm_map *map, uint64_t scid);
  * LGM_CLOSED; LGM_PUBLISHED; LGM_BANNED; LGM_NO_MEMORY.
  */
 uint32_t lgm_ban(lgm_map *map, const uint8_t point[33]);
+
+/* A channel that was closed since it is old. */
+typedef struct {
+    uint64_t scid;
+    uint32_t timestamp; /* of its latest update, in seconds since 1970; 0 without one */
+} lgm_pruned;
+
+/*
+ * Closes each channel whose latest update, of both directions, has a timestamp below `before`, in seconds since 1970, and each
+ * channel without an update that was funded below the block `block`. Writes them to `pruned`, by ascending id, and their number
+ * to `needed`. BOLT 7 lets a node prune what wasn't updated for two weeks, 1,209,600 seconds ("Recommendation on Pruning Stale
+ * Entries"). An id that was pruned is accepted again: who keeps what is written here asks for it only where a peer's update is
+ * newer.
+ *
+ * With LGM_ROOM nothing was closed, and `needed` is the room that is. With LGM_NO_MEMORY the first ones may have been closed, as
+ * many as `needed` says, and those were written: another call goes on.
+ *
+ * Cost: a step for each channel of the map, and what lgm_close_channel costs for each that is closed.
+ *
+ * LGM_CLOSED; LGM_PUBLISHED; LGM_ROOM; LGM_NO_MEMORY.
+ */
+uint32_t lgm_prune(lgm_map *map, uint32_t before, uint32_t block, lgm_pruned *pruned, size_t pruned_len, size_t *needed);
 
 /* The number of channels, or 0 for a closed handle. */
 size_t lgm_count(lgm_map *map);
@@ -493,6 +620,35 @@ uint32_t lgm_estimates_at(lgm_estimates *estimates, size_t place, uint64_t *scid
                           lgm_estimate_info *estimate);
 
 /*
+ * Has what is known of edges fade, since balances move: half of it is left for each half-life, both in one unit of time. What
+ * then says little is forgotten, and so are edges of channels that the map doesn't have. A half-life of 0 counts as 1.
+ *
+ * Cost: log n for each edge of which something is known.
+ *
+ * LGM_CLOSED, of either; LGM_NO_MEMORY.
+ */
+uint32_t lgm_estimates_fade(lgm_estimates *estimates, lgm_map *map, uint32_t elapsed, uint32_t half_life);
+
+/*
+ * Writes what is known of edges as bytes, with a version and a checksum, and their length to `needed`: what lgm_estimates_load
+ * opens. What a payer has learnt is in its own bytes (lgm_payer_save).
+ *
+ * Cost: a step for each edge, and with room for them two copies of the bytes in memory for a moment.
+ *
+ * LGM_CLOSED; LGM_ROOM; LGM_NO_MEMORY.
+ */
+uint32_t lgm_estimates_save(lgm_estimates *estimates, uint8_t *bytes, size_t bytes_len, size_t *needed);
+
+/*
+ * Opens a closed handle with what was saved as these bytes.
+ *
+ * Cost: a step for each edge.
+ *
+ * LGM_OPEN; LGM_NOT_SAVED, of bytes that were cut or changed, or are of another version; LGM_NO_MEMORY.
+ */
+uint32_t lgm_estimates_load(lgm_estimates *estimates, const uint8_t *bytes, size_t bytes_len);
+
+/*
  * An edge beside the map's, by the caller's word: a channel of the payer's own, announced or not, or a route hint of an
  * invoice (BOLT 11, field `r`). Its nodes needn't be in the map, and it has no capacity.
  */
@@ -597,6 +753,275 @@ uint32_t lgm_attempt_route(lgm_map *map, const lgm_attempt *attempt, lgm_estimat
 uint32_t lgm_no_route_reason(lgm_map *map, const lgm_attempt *attempt);
 
 /*
+ * Tells how likely a route is to fail, in millionths: `*odds` is 3,000,000 for odds of 3 to 1 that it fails. It is the sum of
+ * the odds of its channels, but for the first, which is the payer's own: those of a channel are the amount above what it
+ * surely carries, over what is left of what it may carry at most, plus one, and 100 to 1 at most ("Odds of a route" in
+ * docs/protocol.md). At most it carries the maximum of the first of the edges with its name, or else of the map's direction;
+ * or a limit that is less. Of the attempt only edges and limits count. The hops are as lgm_attempt_route writes them.
+ *
+ * Cost: for each hop a step for each edge and limit, and log n.
+ *
+ * LGM_CLOSED, of `map`; LGM_ARGUMENT_EDGES; LGM_ARGUMENT_LIMITS; LGM_ARGUMENT_MAXIMUM; LGM_ARGUMENT_HOPS; LGM_NO_MEMORY.
+ */
+uint32_t lgm_odds(lgm_map *map, const lgm_attempt *attempt, lgm_estimates *estimates, const lgm_hop *hops, size_t hops_len,
+                  uint32_t *odds);
+
+/*
+ * A handle of a payer, or none. All zeros are a closed handle. A payer is a node that pays: it has payments, with all parts
+ * that were sent of them, and what it has learnt of edges. It never sends more than an invoice's amount, nor fees, parts or
+ * tries beyond the bounds; and over no channel more than it can carry beside all that is under way of its payments, as far as
+ * that is known (docs/paying.md). Payments have numbers, in the order in which they were begun, and so have parts, over all
+ * payments, in the order in which they were sent; no number is given twice.
+ */
+typedef struct {
+    bool is_open;
+    void *at;
+} lgm_payer;
+
+/* What a payee asks for (BOLT 11), as the caller has decoded it, and what else the payer sends to it. */
+typedef struct {
+    uint64_t amount_msat;  /* 1 or more; where the invoice has none, it is the payer's choice */
+    const lgm_edge *hints; /* of the fields `r`: an edge from each node to the next, the last one to the payee */
+    size_t hints_len;
+    const uint8_t *metadata; /* the payment metadata, of the field `m`; with the length 0, none */
+    size_t metadata_len;
+    const lgm_record *records; /* custom records, by ascending types */
+    size_t records_len;
+    uint16_t min_final_cltv_expiry_delta; /* in blocks, of the field `c` */
+    bool basic_mpp;                       /* whether the payee takes several parts: feature 16 or 17 */
+    uint8_t payee[33];
+    uint8_t secret[32]; /* the payment secret, of the field `s` */
+} lgm_invoice;
+
+/* What a payment may take. */
+typedef struct {
+    uint64_t most_fee_msat;   /* the fees of all parts together that are under way or have arrived */
+    uint64_t least_part_msat; /* of a part, if the amount is divided */
+    size_t most_tries;        /* parts that are ever sent */
+    size_t most_parts;        /* parts that are under way or have arrived, where the payee takes several: 1 or more */
+    uint16_t most_blocks;     /* until the first HTLC of a part expires */
+} lgm_bounds;
+
+/* What a payer sees when it asks for a part of a payment. */
+typedef struct {
+    const lgm_edge *channels; /* the payer's channels: edges out of it, each with what it can send now, which may be 0 */
+    size_t channels_len;
+    uint64_t reckoned;     /* how many parts they reckon: all with a lower number. What later ones take is deducted */
+    uint64_t most_steps;   /* as of lgm_search */
+    size_t most_labels;    /* as of lgm_search */
+    uint32_t height;       /* the height of the chain */
+    uint32_t failure_msat; /* what a failed try is worth to the payer, if it `prefers` */
+    uint32_t hop_msat;     /* what each hop is, if it `prefers` */
+    /* whether these two count. Otherwise a failed try is worth 200 millionths of the payment's amount, but a hundredth of it up
+     * to 20 satoshi, and a hop half a satoshi */
+    bool prefers;
+} lgm_sight;
+
+/* A part that is under way from now on. */
+typedef struct {
+    uint64_t part;        /* its number: how many parts the payer had sent before */
+    uint64_t amount_msat; /* what the payee gets */
+    uint64_t fee_msat;    /* what is sent beyond that */
+    uint64_t detail;      /* what comes with some faults, see lgm_payer_next; unchanged otherwise */
+    lgm_lengths lengths;  /* the numbers of its hops, and of the bytes of their payloads */
+    uint32_t odds;        /* the odds that it fails, in millionths, as lgm_odds has them */
+    uint32_t blocks;      /* from the height until its first HTLC expires */
+    bool is_best;         /* false, if its route may not be the best one, since labels or steps ran out */
+} lgm_part;
+
+/*
+ * Opens a closed handle with a payer that has begun no payment. It has learnt what `estimates` has, of which it gets a copy; with
+ * a closed handle, nothing.
+ *
+ * LGM_OPEN; LGM_NO_MEMORY.
+ */
+uint32_t lgm_payer_open(lgm_payer *payer, const uint8_t point[33], lgm_estimates *estimates);
+
+/* Frees what a handle has, if it is open, and closes the handle. */
+void lgm_payer_free(lgm_payer *payer);
+
+/*
+ * Begins a payment, and writes its number. Hints out of the payer are left out: what its channels are the payer alone says. An
+ * invoice that is begun twice is paid twice.
+ *
+ * LGM_CLOSED; 21, of an amount of 0; LGM_NO_PARTS; LGM_NUMBERS_USED_UP; LGM_NO_MEMORY.
+ */
+uint32_t lgm_payer_begin(lgm_payer *payer, const lgm_invoice *invoice, const lgm_bounds *bounds, uint64_t *payment);
+
+/*
+ * Chooses the next part of a payment, beside all that is under way, and writes it, its hops and their payloads, as lgm_payloads
+ * does: it is under way from now on, so send it. LGM_WHOLE says that there is none, since all of the amount is under way, or
+ * the payee took it. A payee that takes several parts holds them until all have come, so ask for parts until there is none.
+ *
+ * The part is what is left, or else its half, its quarter and so on: the first whose best route fails with odds of 3 to 1 or
+ * less, or else the one that is expected to bring most. Its route is the best one by what the payer prefers and has learnt,
+ * or, where the fee of that is beyond the bound, the cheapest one. Before what is left is divided, a cut between the payer and
+ * the payee is sought across which less can be carried: if one is found, nothing is sent, with LGM_PATHS_SHORT.
+ *
+ * `hops_len` is at least LGM_MOST_HOPS, and `payloads_len` LGM_MOST_PAYLOADS: else LGM_ROOM, before anything is sent. `detail`
+ * is written with LGM_TOO_DEAR: the fee of the cheapest route, in msat; with LGM_CHANNELS_SHORT, LGM_PAYEE_SHORT and
+ * LGM_PATHS_SHORT: what can be sent or carried together, in msat; and with LGM_PAYEE_REFUSED: the failure code. After any other
+ * number than LGM_OK nothing else has changed.
+ *
+ * Cost: that of lgm_attempt_route for each amount that is tried, a copy of what was learnt where something is under way over
+ * an edge of which something is known, a step for each hop of each part, and once what is left is divided, less than a
+ * millisecond for the cut.
+ *
+ * LGM_CLOSED, of either; LGM_ROOM; LGM_FULL, also where the map, the channels and the hints name too many nodes; LGM_UNKNOWN_PAYMENT; LGM_FOREIGN_CHANNEL; LGM_RECKONED_AHEAD;
+ * LGM_RECKONED_BEFORE; LGM_WHOLE; LGM_ABANDONED; LGM_PAYEE_REFUSED; LGM_TRIES_USED_UP; LGM_CHANNELS_SHORT; LGM_PAYEE_SHORT;
+ * LGM_PATHS_SHORT; 22 to 26; LGM_TOO_DEAR; 117 to 119; LGM_NUMBERS_USED_UP; LGM_NO_MEMORY.
+ */
+uint32_t lgm_payer_next(lgm_payer *payer, lgm_map *map, uint64_t payment, const lgm_sight *sight, lgm_part *part, lgm_hop *hops,
+                        size_t hops_len, uint8_t *payloads, size_t payloads_len);
+
+/*
+ * Notes that a part failed with a failure message (BOLT 4, "Failure Messages"), and learns from it. `place` is that of the node
+ * that returned it: 1 is the one that the first hop leads to, 0 the payer itself. `code` is its failure_code. If the message is
+ * about the terms of an edge, offer the update that came with it to the map first: `is_renewed` says whether it was accepted.
+ *
+ * Cost: a copy of what was learnt.
+ *
+ * LGM_CLOSED; LGM_UNKNOWN_PAYMENT; LGM_UNKNOWN_PART; LGM_NOT_UNDER_WAY; LGM_BEYOND_ROUTE; LGM_FOREIGN_CODE; LGM_NO_MEMORY.
+ */
+uint32_t lgm_payer_failed(lgm_payer *payer, uint64_t payment, uint64_t part, uint8_t place, uint16_t code, bool is_renewed);
+
+/*
+ * Notes that a part failed, and that no failure message could be read. A part of which nothing comes back is under way until its
+ * HTLC is resolved, whatever that takes.
+ *
+ * LGM_CLOSED; LGM_UNKNOWN_PAYMENT; LGM_UNKNOWN_PART; LGM_NOT_UNDER_WAY; LGM_NO_MEMORY.
+ */
+uint32_t lgm_payer_unreadable(lgm_payer *payer, uint64_t payment, uint64_t part);
+
+/*
+ * Notes that the payee took the whole: a preimage came back. All parts that are under way have arrived, also if the payment was
+ * abandoned, and what they carry is gone from their edges for good.
+ *
+ * Cost: a copy of what was learnt.
+ *
+ * LGM_CLOSED; LGM_UNKNOWN_PAYMENT; LGM_ALREADY_PAID; LGM_NOTHING_UNDER_WAY; LGM_NO_MEMORY.
+ */
+uint32_t lgm_payer_fulfilled(lgm_payer *payer, uint64_t payment);
+
+/*
+ * Sends nothing more for a payment. What is under way is waited for.
+ *
+ * LGM_CLOSED; LGM_UNKNOWN_PAYMENT; LGM_ALREADY_PAID.
+ */
+uint32_t lgm_payer_abandon(lgm_payer *payer, uint64_t payment);
+
+/*
+ * Forgets a payment of which nothing is under way. What was learnt stays. If it was paid, `reckoned` of lgm_sight is at least
+ * the number of parts sent so far from then on.
+ *
+ * Cost: a step for each payment.
+ *
+ * LGM_CLOSED; LGM_UNKNOWN_PAYMENT; LGM_UNDER_WAY.
+ */
+uint32_t lgm_payer_forget(lgm_payer *payer, uint64_t payment);
+
+/*
+ * Has what was learnt of edges fade, since balances move: half of it is left for each half-life, both in one unit of time. What
+ * then says little is forgotten, and so are edges of channels that the map doesn't have. A half-life of 0 counts as 1.
+ *
+ * Cost: log n for each edge of which something is known.
+ *
+ * LGM_CLOSED, of either; LGM_NO_MEMORY.
+ */
+uint32_t lgm_payer_fade(lgm_payer *payer, lgm_map *map, uint32_t elapsed, uint32_t half_life);
+
+/*
+ * Copies what was learnt of edges, and opens a closed handle with it.
+ *
+ * LGM_CLOSED, of `payer`; LGM_OPEN, of `estimates`; LGM_NO_MEMORY.
+ */
+uint32_t lgm_payer_learnt(lgm_payer *payer, lgm_estimates *estimates);
+
+/* How many parts were sent, over all payments: the number of the next one. 0 for a closed handle. */
+uint64_t lgm_payer_sent(lgm_payer *payer);
+
+/* What became of a payment. */
+enum {
+    LGM_STAGE_OPEN = 0,      /* parts may be sent */
+    LGM_STAGE_ABANDONED = 1, /* nothing more is sent */
+    LGM_STAGE_PAID = 2       /* the payee took the whole */
+};
+
+/* A payment. */
+typedef struct {
+    uint64_t amount_msat;
+    uint64_t left_msat; /* what is neither under way nor has arrived */
+    uint64_t fee_msat;  /* of the parts that are under way or have arrived */
+    size_t parts;       /* how many were ever sent */
+    size_t parts_held;  /* how many of them haven't failed: they are under way, or have arrived if it is paid */
+    uint32_t stage;
+} lgm_payment_info;
+
+/*
+ * Looks up a payment.
+ *
+ * Cost: a step for each payment and part.
+ *
+ * LGM_CLOSED; LGM_UNKNOWN_PAYMENT.
+ */
+uint32_t lgm_payer_payment(lgm_payer *payer, uint64_t payment, lgm_payment_info *info);
+
+/*
+ * Goes through the payments by their numbers: replaces `*payment` by the least one above it or, if `is_first`, by the least of
+ * all. With LGM_NONE it is unchanged.
+ *
+ * Cost: a step for each payment.
+ *
+ * LGM_CLOSED; LGM_NONE.
+ */
+uint32_t lgm_payer_next_payment(lgm_payer *payer, bool is_first, uint64_t *payment);
+
+/* How a part ended. */
+enum {
+    LGM_PART_HELD = 0,       /* it is under way, or has arrived if its payment is paid */
+    LGM_PART_UNREADABLE = 1, /* it failed, and no failure message could be read */
+    LGM_PART_FAILED = 2      /* it failed with a failure message */
+};
+
+/* A part that was sent. */
+typedef struct {
+    uint64_t part;        /* its number */
+    uint64_t amount_msat; /* what the payee gets */
+    uint64_t fee_msat;    /* what is sent beyond that */
+    size_t hops;          /* how many hops its route has */
+    uint32_t blocks;      /* from the height at which it was asked for until its first HTLC expires */
+    uint32_t ending;      /* how it ended */
+    uint16_t code;        /* the failure_code, of a part that failed with a message; else 0 */
+    uint8_t place;        /* the place of the node that returned it; else 0 */
+} lgm_part_info;
+
+/*
+ * Looks up the part at a place of a payment, from 0 to `parts` of lgm_payment_info, in the order in which they were sent, and
+ * writes its hops, with payload lengths of 0. With LGM_ROOM the part is written, but not its hops.
+ *
+ * LGM_CLOSED; LGM_UNKNOWN_PAYMENT; LGM_NONE, at a place where there is none; LGM_ROOM.
+ */
+uint32_t lgm_payer_part(lgm_payer *payer, uint64_t payment, size_t place, lgm_part_info *part, lgm_hop *hops, size_t hops_len);
+
+/*
+ * Writes all that a payer is as bytes, with a version and a checksum, and their length to `needed`: what lgm_payer_load opens.
+ * Save it before a part is sent, and after each call that changed it: a payer that is opened from older bytes doesn't know
+ * what is under way, and may pay twice.
+ *
+ * Cost: all that the payer has, and with room for it two copies of the bytes in memory for a moment.
+ *
+ * LGM_CLOSED; LGM_ROOM; LGM_NO_MEMORY.
+ */
+uint32_t lgm_payer_save(lgm_payer *payer, uint8_t *bytes, size_t bytes_len, size_t *needed);
+
+/*
+ * Opens a closed handle with the payer that was saved as these bytes.
+ *
+ * LGM_OPEN; LGM_NOT_SAVED, of bytes that were cut or changed, or of another version; LGM_NO_MEMORY.
+ */
+uint32_t lgm_payer_load(lgm_payer *payer, const uint8_t *bytes, size_t bytes_len);
+
+/*
  * Answers a peer's query_short_channel_ids (261) or query_channel_range (263) (BOLT 7, "Query Messages"). Writes the
  * replies to `replies`, whole messages, each after its length in eight bytes, little-endian; and the length of all of
  * that to `needed`. A query for another chain is answered too, as BOLT 7 says.
@@ -625,7 +1050,7 @@ uint32_t lgm_filter(lgm_map *map, const uint8_t *filter, size_t filter_len, uint
  * in a published map, which has none, these are all that pass. They are written as by lgm_query.
  *
  * Cost: log n for each channel and node that changed since the mark, or for each of the map, if more was accepted than
- * it has channels, and 1,024 more. The first call behind a mark also brings the copy of the map there, by what was
+ * it has channels, and 1,024 more. The first call after a mark also brings the copy of the map there, by what was
  * accepted since the mark before.
  *
  * LGM_CLOSED; 1 to 3; LGM_NOT_FILTER; LGM_CHAIN; LGM_ROOM; LGM_NO_MEMORY.
@@ -650,12 +1075,80 @@ uint32_t lgm_news_between(lgm_map *before, lgm_map *after, const uint8_t *filter
  * then none are, and the next lgm_news takes the time of the map. Before the first of them that comes after the first mark,
  * or after one that none led to, the map's index is copied. None are kept for a mark on a map without channels.
  *
- * Cost: constant. The next message, close or ban behind the first call copies the map, but not its messages. One behind a
+ * Cost: constant. The next message, close or ban after the first call copies the map, but not its messages. One after a
  * later call does so, too, if more was accepted since the mark before than the map has channels, and 1,024 more.
  *
  * LGM_CLOSED; LGM_PUBLISHED.
  */
 uint32_t lgm_mark(lgm_map *map);
+
+/*
+ * Writes the query_channel_range (263) that asks a peer for the ids of its channels of `blocks` blocks from `first_block` on, and
+ * for the timestamps of their updates (BOLT 7, "Query Messages"), and its length to `needed`. The peer answers with messages
+ * of type 264: lgm_lacking tells what the map lacks of each, and lgm_covered how far they go.
+ *
+ * LGM_CLOSED; LGM_ROOM; LGM_NO_MEMORY.
+ */
+uint32_t lgm_ask_range(lgm_map *map, uint32_t first_block, uint32_t blocks, uint8_t *query, size_t query_len, size_t *needed);
+
+/*
+ * Writes the gossip_timestamp_filter (265) that asks a peer for gossip with timestamps from `first` on, for so many seconds, in
+ * the same way.
+ *
+ * LGM_CLOSED; LGM_ROOM; LGM_NO_MEMORY.
+ */
+uint32_t lgm_ask_filter(lgm_map *map, uint32_t first, uint32_t seconds, uint8_t *filter, size_t filter_len, size_t *needed);
+
+/*
+ * A channel of which a map lacks messages that a peer has. The timestamps are those of the peer's updates by node 1 and by
+ * node 2, in seconds since 1970, and 0 without an update, or if the reply tells none: who has pruned an old channel compares
+ * them.
+ */
+typedef struct {
+    uint64_t scid;
+    uint32_t timestamp_1;
+    uint32_t timestamp_2;
+    uint8_t flags; /* bit 0: the announcement; bits 1 and 2: the updates of node 1 and node 2; bits 3 and 4: these nodes */
+} lgm_lacking_info;
+
+/*
+ * Tells what the map lacks of the channels in a peer's reply_channel_range (264), by ascending id: all messages of a channel
+ * that it doesn't have, and the updates whose timestamps are above those of its own. Writes them to `lacking`, and how many
+ * there are to `needed`. Ids that don't ascend are passed over: BOLT 7 requires that they do.
+ *
+ * Cost: log n for each id.
+ *
+ * LGM_CLOSED; 1 to 3; LGM_NOT_REPLY; LGM_CHAIN; LGM_ROOM; LGM_NO_MEMORY.
+ */
+uint32_t lgm_lacking(lgm_map *map, const uint8_t *reply, size_t reply_len, lgm_lacking_info *lacking, size_t lacking_len,
+                     size_t *needed);
+
+/* The most channels of one query: with the flags of each it fits a message. */
+#define LGM_MOST_IDS 7000
+
+/*
+ * Writes the query_short_channel_ids (261) that asks a peer for what is lacking of the first LGM_MOST_IDS of these channels, or
+ * of all if there are fewer, and its length to `needed`. Only their ids and flags count. BOLT 7 requires that ids ascend, and
+ * that a peer has answered one query before it gets the next.
+ *
+ * Cost: a step for each channel.
+ *
+ * LGM_CLOSED; LGM_ROOM; LGM_NO_MEMORY.
+ */
+uint32_t lgm_ask_ids(lgm_map *map, const lgm_lacking_info *lacking, size_t lacking_len, uint8_t *query, size_t query_len,
+                     size_t *needed);
+
+/*
+ * Moves the block up to which the replies to a query cover its range, exclusive, by one reply more: `*next` is at first the first
+ * block of the range, and the range is covered once it is at its end or beyond. A reply that begins after `*next` would
+ * leave a gap, and one that ends before it adds nothing: with both it is unchanged. So a peer can't claim to have told of a block
+ * that no reply has.
+ *
+ * Cost: the message is read once.
+ *
+ * LGM_CLOSED; 1 to 3; LGM_NOT_REPLY; LGM_CHAIN; LGM_NO_MEMORY.
+ */
+uint32_t lgm_covered(lgm_map *map, const uint8_t *reply, size_t reply_len, uint64_t *next);
 
 /*
  * Opens a closed handle with the map as it is now, with its view, for good.

@@ -1,6 +1,6 @@
 """Reads in the sources of the library which calls leave a map as it is. Such a call has a clause that says so of this map:
 
-    ensures same { map.new.handle.value ≡ map.old.handle.value }
+    ensures same { map.new.value ≡ map.old.value }
 """
 
 from __future__ import annotations
@@ -12,7 +12,7 @@ from typing import Dict, List
 SOURCES = Path(__file__).resolve().parent.parent / "crates" / "lgm_c" / "src"
 # An exported call: its name, its parameters, and its result with its clauses.
 CALL = re.compile(r'#\[unsafe\(no_mangle\)\]\s*pub extern "C" fn (\w+)\((.*?)\)(.*?)^[{}]', re.DOTALL | re.MULTILINE)
-SAME = re.compile(r"^ *ensures (\w+) \{ (\w+)\.new\.handle\.value ≡ \2\.old\.handle\.value \}$", re.MULTILINE)
+SAME = re.compile(r"^ *ensures (\w+) \{ (\w+)\.new\.value ≡ \2\.old\.value \}$", re.MULTILINE)
 
 
 def sources() -> str:

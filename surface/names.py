@@ -16,6 +16,8 @@ CLASSES = {
     "LGM_ARGUMENT_PAYLOADS": "PayloadsTooLong",
     "LGM_ARGUMENT_WHICH": "WrongMessage",
 }
+# Structs that keep the end of their name, since another one has the rest.
+STRUCTS = {"lgm_payment_info": "payment_info", "lgm_part_info": "part_info"}
 # Words that Rust keeps for itself, as far as a header may have them.
 RUST_KEYWORDS = {"as", "box", "crate", "dyn", "fn", "impl", "in", "let", "loop", "match", "mod", "move", "mut", "pub", "ref",
                  "self", "super", "trait", "type", "unsafe", "use", "where"}
@@ -35,7 +37,7 @@ def short(one: Number | Constant | Struct | Call) -> str:
     """A name without the letters that all names of the header begin with; of a number without a name its word."""
     name = re.sub(r"^lgm_|^LGM_", "", one.name)
     if isinstance(one, Struct):
-        return name.removesuffix("_info")
+        return STRUCTS.get(one.name) or name.removesuffix("_info")
     return name or upper(getattr(one, "word", ""))
 
 

@@ -17,8 +17,11 @@ PACKAGE = "python/lgm/__init__.py"
 BEGIN, END = "    # Made of include/lgm.h by python3 surface/make.py:\n", "    # The end of what is made.\n"
 # The class that all faults are of, by hand in fault.py: the group of this name has no class of its own.
 BASE = "Fault"
-# Groups of numbers that no call fails with, those that are an enumeration, and a fault whose class is by hand in faults.py.
-NO_FAULTS, ENUMERATIONS, BY_HAND = {"Done", "First fault"}, {"Reason"}, {"LGM_NO_ROUTE"}
+# Groups of numbers that no call fails with, and those that are an enumeration.
+NO_FAULTS, ENUMERATIONS = {"Done", "First fault"}, {"Reason"}
+# Faults that say more than their word, whose classes are by hand in faults.py.
+BY_HAND = {"LGM_NO_ROUTE", "LGM_TOO_DEAR", "LGM_CHANNELS_SHORT", "LGM_PAYEE_SHORT", "LGM_PATHS_SHORT",
+           "LGM_PAYEE_REFUSED"}
 
 HEAD = f'''# {MADE}
 """A class for each number of include/lgm.h that is a fault, with its word."""

@@ -82,6 +82,17 @@ def words(header: Header) -> Iterator[str]:
     yield from ('            _ => "",', "        }", "    }")
 
 
+def meanings(header: Header) -> Iterator[str]:
+    """The function that has what the numbers mean."""
+    yield from ("    /// What it means, as the header says it; empty of a number that no call returns.",
+                "    pub const fn meaning(self) -> &'static str {", "        match self.0 {")
+    for number in header.returned():
+        if number.text:
+            quoted = number.text.replace("\\", "\\\\").replace('"', '\\"')
+            yield f'            {number.value} => "{quoted}",'
+    yield from ('            _ => "",', "        }", "    }")
+
+
 def version(header: Header) -> str:
     """The version of the library, alone."""
     return (f"// {MADE}\n\n/// The version of the library that this crate is for, as its header has it.\n"
@@ -102,5 +113,5 @@ def made(header: Header) -> Dict[str, str]:
     for number in header.returned():
         if number.name and number.group in groups:
             lines += [*fault_in_rust(number), ""]
-    lines += [*kind_of(header, groups), "", *words(header), "}"]
+    lines += [*kind_of(header, groups), "", *words(header), "", *meanings(header), "}"]
     return {FILE: "\n".join(lines) + "\n", VERSION_FILE: version(header)}

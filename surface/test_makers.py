@@ -144,9 +144,9 @@ def tables_of_pages_are_made():
 SOURCE = """
 #[unsafe(no_mangle)]
 pub extern "C" fn lgm_look(alloc: Global, before: &mut LgmMap, things: &mut LgmThings, after: &mut LgmMap, line: &[u8]) -> u32
-    ensures same { after.new.handle.value ≡ after.old.handle.value }
-    ensures kept { things.new.handle.value ≡ things.old.handle.value }
-    ensures same_before { before.new.handle.value ≡ before.old.handle.value }
+    ensures same { after.new.value ≡ after.old.value }
+    ensures kept { things.new.value ≡ things.old.value }
+    ensures same_before { before.new.value ≡ before.old.value }
 {
 }
 
@@ -155,7 +155,7 @@ pub extern "C" fn lgm_free(
     alloc: Global,
     map: &mut LgmMap,
 )
-    ensures same { is_ok result → map.new.handle.value ≡ map.old.handle.value }
+    ensures same { is_ok result → map.new.value ≡ map.old.value }
 {
 }
 
@@ -164,7 +164,7 @@ pub extern "C" fn lgm_text() -> u32 {
 }
 
 fn look_inside(map: &mut LgmMap) -> u32
-    ensures same { map.new.handle.value ≡ map.old.handle.value }
+    ensures same { map.new.value ≡ map.old.value }
 {
 }
 """

@@ -1,12 +1,16 @@
 mod Values
-mod MapValues
-mod EstimatesValues
+mod Walks
 mod Unwanted
 mod Mended
 mod FirstNews
 mod Hops
+mod Filling
 mod ShortWords
 mod Searches
+mod SavedMaps
 mod Maxima
 mod Written
 mod Built
+mod Told
+mod ReasonTold
+pub mod Pruned

@@ -3,7 +3,7 @@ use Rattle.std.proofs.Common.{◌≡◌, ◌||◌, List, [], ◌∷◌, refl, ap
 use Rattle.std.specs.Prelude.{map, nat_eq}
 use Rattle.std.specs.List.{list_any}
 use Rattle.lgm_graph.specs.Overlay.{extra_edge}
-use Rattle.lgm_c.specs.declared.attempt.LgmEdge.{LgmEdge}
+use Rattle.lgm_c.specs.declared.overlay.LgmEdge.{LgmEdge}
 use Rattle.lgm_c.specs.Attempts.{extra_given, lacks_maximum}
 
 pub maxima : (edges : List LgmEdge)

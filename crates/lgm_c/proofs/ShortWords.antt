@@ -11,6 +11,7 @@ use Rattle.lgm_route.specs.declared.no_route.NoRouteReason.{NoRouteReason}
 use Rattle.lgm_route.specs.declared.no_route.NoRouteReason.TheVariants as no_routes
 use Rattle.lgm_route.specs.Reasons.{reason_word}
 use Rattle.lgm_c.specs.Arguments.{argument_word}
+use Rattle.lgm_c.specs.PaymentFaults.{payment_word}
 use Rattle.lgm_c.specs.Decoding.{decode_word}
 use Rattle.lgm_c.specs.Words.{refusal_at, reason_at, no_route_at, word_of_call, word_by, word_at}
 
@@ -59,13 +60,17 @@ argument_short : (number : ℕ) → length (argument_word number) ≤ 24
 argument_short number =
     either_short (number == 110) _ _ (lit≤ tt) (either_short (number == 111) _ _ (lit≤ tt) (either_short (number == 112) _ _ (lit≤ tt) (either_short (number == 113) _ _ (lit≤ tt) (either_short (number == 114) _ _ (lit≤ tt) (either_short (number == 115) _ _ (lit≤ tt) (either_short (number == 116) _ _ (lit≤ tt) (either_short (number == 117) _ _ (lit≤ tt) (either_short (number == 118) _ _ (lit≤ tt) (either_short (number == 119) _ _ (lit≤ tt) (either_short (number == 120) _ _ (lit≤ tt) (lit≤ tt)))))))))))
 
+payment_short : (number : ℕ) → length (payment_word number) ≤ 24
+payment_short number =
+    either_short (number == 71) _ _ (lit≤ tt) (either_short (number == 72) _ _ (lit≤ tt) (either_short (number == 73) _ _ (lit≤ tt) (either_short (number == 74) _ _ (lit≤ tt) (either_short (number == 75) _ _ (lit≤ tt) (either_short (number == 76) _ _ (lit≤ tt) (either_short (number == 77) _ _ (lit≤ tt) (either_short (number == 81) _ _ (lit≤ tt) (either_short (number == 82) _ _ (lit≤ tt) (either_short (number == 83) _ _ (lit≤ tt) (either_short (number == 84) _ _ (lit≤ tt) (either_short (number == 85) _ _ (lit≤ tt) (either_short (number == 86) _ _ (lit≤ tt) (either_short (number == 87) _ _ (lit≤ tt) (either_short (number == 88) _ _ (lit≤ tt) (either_short (number == 89) _ _ (lit≤ tt) (either_short (number == 90) _ _ (lit≤ tt) (either_short (number == 91) _ _ (lit≤ tt) (either_short (number == 92) _ _ (lit≤ tt) (either_short (number == 93) _ _ (lit≤ tt) (argument_short number))))))))))))))))))))
+
 decode_short : (number : ℕ) → length (decode_word number) ≤ 24
 decode_short number =
-    either_short (number == 51) _ _ (lit≤ tt) (either_short (number == 52) _ _ (lit≤ tt) (either_short (number == 53) _ _ (lit≤ tt) (either_short (number == 54) _ _ (lit≤ tt) (either_short (number == 55) _ _ (lit≤ tt) (either_short (number == 56) _ _ (lit≤ tt) (either_short (number == 57) _ _ (lit≤ tt) (either_short (number == 58) _ _ (lit≤ tt) (either_short (number == 59) _ _ (lit≤ tt) (either_short (number == 60) _ _ (lit≤ tt) (either_short (number == 61) _ _ (lit≤ tt) (argument_short number)))))))))))
+    either_short (number == 51) _ _ (lit≤ tt) (either_short (number == 52) _ _ (lit≤ tt) (either_short (number == 53) _ _ (lit≤ tt) (either_short (number == 54) _ _ (lit≤ tt) (either_short (number == 55) _ _ (lit≤ tt) (either_short (number == 56) _ _ (lit≤ tt) (either_short (number == 57) _ _ (lit≤ tt) (either_short (number == 58) _ _ (lit≤ tt) (either_short (number == 59) _ _ (lit≤ tt) (either_short (number == 60) _ _ (lit≤ tt) (either_short (number == 61) _ _ (lit≤ tt) (payment_short number)))))))))))
 
 call_short : (number : ℕ) → length (word_of_call number) ≤ 24
 call_short number =
-    either_short (number == 0) _ _ (lit≤ tt) (either_short (number == 26) _ _ (lit≤ tt) (either_short (number == 27) _ _ (lit≤ tt) (either_short (number == 31) _ _ (lit≤ tt) (either_short (number == 32) _ _ (lit≤ tt) (either_short (number == 33) _ _ (lit≤ tt) (either_short (number == 100) _ _ (lit≤ tt) (either_short (number == 101) _ _ (lit≤ tt) (either_short (number == 102) _ _ (lit≤ tt) (either_short (number == 104) _ _ (lit≤ tt) (either_short (number == 105) _ _ (lit≤ tt) (either_short (number == 106) _ _ (lit≤ tt) (either_short (number == 107) _ _ (lit≤ tt) (decode_short number)))))))))))))
+    either_short (number == 0) _ _ (lit≤ tt) (either_short (number == 26) _ _ (lit≤ tt) (either_short (number == 27) _ _ (lit≤ tt) (either_short (number == 28) _ _ (lit≤ tt) (either_short (number == 31) _ _ (lit≤ tt) (either_short (number == 32) _ _ (lit≤ tt) (either_short (number == 33) _ _ (lit≤ tt) (either_short (number == 34) _ _ (lit≤ tt) (either_short (number == 35) _ _ (lit≤ tt) (either_short (number == 100) _ _ (lit≤ tt) (either_short (number == 101) _ _ (lit≤ tt) (either_short (number == 102) _ _ (lit≤ tt) (either_short (number == 104) _ _ (lit≤ tt) (either_short (number == 105) _ _ (lit≤ tt) (either_short (number == 106) _ _ (lit≤ tt) (either_short (number == 107) _ _ (lit≤ tt) (decode_short number))))))))))))))))
 
 pub word_short : (number : ℕ) → length (word_at number) ≤ 24
 unfolding word_at

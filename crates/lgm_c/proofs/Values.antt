@@ -5,8 +5,10 @@ use lib.Dec.{T}
 use seplogic.Ra.Ura.{Ura}
 use mir.Syntax.{impl, tnil, tcons, dnil, ty_ptr, ty_struct}
 use mir.Raw.{raw as bare}
-use mir.Val.{Val, vptr, vstruct, vcons, vnil, of_list, has_ty, WT}
+use mir.Val.{Val, vbool, vptr, vstruct, vcons, vnil, of_list, has_ty, WT}
 use base.Logic.{never, fst∗}
+use base.Fml.{fsep}
+use Rattle.lgm_c.specs.inner.Handle.{owns_box}
 use prog.Model.{Model}
 use contract.Running.{Running, tables}
 use sound.WpLaws.{FmC}
@@ -14,13 +16,13 @@ use denote.Triple.Table.{framed}
 use types.Logic.{Logic, sem}
 use types.Kit.{Item, Goal, Seq, Step, step, ‵, ◌$◌, move, drop, fsplit, fjoin, fpick, fpack, feq_i, feq_l}
 use denote.RattleType.{RattleType, Valss}
-use denote.Builtin.{RawPtr}
+use denote.Builtin.{RawPtr, bool}
 use denote.Memory.{lone}
 use denote.RawPtr.{Ptr, block_ptr, null_ptr, ptr_val, in_a_block}
 use denote.Steps.{nothing}
 use denote.Param.{layout}
 use denote.Param.Laws.{Laws}
-use denote.Struct.Struct.{within}
+use denote.Struct.Struct.{Struct, within}
 use denote.Struct.Owning.{shape}
 use Rattle.std.specs.declared.alloc.Allocator.{Ghosts}
 use Rattle.std.proofs.alloc.Calls.{Al, handle_tells}
@@ -75,16 +77,20 @@ module _ (R Z : RattleType) (L : Laws Z) (g : Ghosts Z.Denot) where
 abbrev pub Z : RattleType
 Z = heap.the_row
 
-abbrev pub one : Ptr → Val
-one p = vstruct (vcons (ptr_val p) vnil)
-
 pub ptr_typed : (p : Ptr) → Good ty_ptr (ptr_val p)
 ptr_typed (block_ptr b o) = (tt, tt)
 ptr_typed null_ptr = (tt, record { fits = lit< tt })
 
-pub one_typed : (p : Ptr) → Good (ty_struct [] (tcons ty_ptr tnil)) (one p)
-one_typed (block_ptr b o) = (tt, (tt, tt))
-one_typed null_ptr = (tt, (record { fits = lit< tt }, tt))
+-- a handle's words: whether it is open, and where its box is
+abbrev pub Words : RattleType
+Words = Struct (record { name = []; args = []; types = []; fields = bool ∷ RawPtr ∷ [] })
+
+abbrev pub words : Bool → Ptr → Val
+words b p = both (vbool b) (ptr_val p)
+
+pub words_good : (b : Bool) (p : Ptr) → Good (layout Words) (words b p)
+words_good b (block_ptr n o) = (tt, (tt, (tt, tt)))
+words_good b null_ptr = (tt, (tt, (record { fits = lit< tt }, tt)))
 
 pub ptr_good : (p : Ptr) (h : Val) → Good (layout Z) h → Good (ty_struct [] (tcons ty_ptr (tcons (layout Z) tnil))) (both (ptr_val p) h)
 ptr_good (block_ptr b o) h fits = (and_tt (has_ty (layout Z) h) fits.0, (tt, (fits.1, tt)))
@@ -117,6 +123,23 @@ module _ (R : RattleType) where
         fjoin t $ feq_i t (List Val) (v ∷ []) (v ∷ []) refl $ fjoin t $
         fpack t (Valss (RawPtr ∷ Z ∷ [])) (within (shape (loose.the_type R Z ghosts)) (p, (a, tt)) (v ∷ []))
         (ptr_val p ∷ [], (h ∷ [], tt)) $ fjoin t $ s)
+
+  module _ {M : Type 1} {𝓤 : Ura M} {𝓛 : Logic 𝓤} {K : Type 0} {Γ : List (Item 𝓤)} {G : Goal 𝓤 𝓛.H} where
+    -- what a handle owns, taken apart and put together
+    pub handle_out : K → (b : Bool) (p : Ptr) (o : Option R.Denot) (vs : List Val)
+        → (vs ≡ words b p ∷ [] → Seq K 𝓛 (‵ (owns_box R p o) ∷ Γ) G)
+        → Seq K 𝓛 (‵ (fsep (Words.own_val (b, (p, tt)) vs) (owns_box R p o)) ∷ Γ) G
+    handle_out t b p o vs k =
+        fsplit t $ fpick t (λ vss. fsplit t $ feq_l t (λ ev. fsplit t $ feq_l t (λ eb. fsplit t $ feq_l t
+        (λ ep. drop t $ k (subst (λ (bs : List Val). vs ≡ vstruct (of_list (bs ++ (ptr_val p ∷ []))) ∷ []) eb
+        (subst (λ (ps : List Val). vs ≡ vstruct (of_list (vss.0 ++ (ps ++ []))) ∷ []) ep ev))))))
+
+    pub handle_in : K → (b : Bool) (p : Ptr) (o : Option R.Denot)
+        → Step K 𝓛 (‵ (fsep (Words.own_val (b, (p, tt)) (words b p ∷ [])) (owns_box R p o)) ∷ Γ) G (‵ (owns_box R p o) ∷ Γ) G
+    handle_in t b p o = step (λ s. let v : Val = words b p in
+        nothing t $ feq_i t (List Val) (ptr_val p ∷ []) (ptr_val p ∷ []) refl $ fjoin t $
+        feq_i t (List Val) (vbool b ∷ []) (vbool b ∷ []) refl $ fjoin t $ feq_i t (List Val) (v ∷ []) (v ∷ []) refl $ fjoin t $
+        fpack t (Valss (bool ∷ RawPtr ∷ [])) (within (record { name = []; args = []; types = []; fields = bool ∷ RawPtr ∷ [] }) (b, (p, tt)) (v ∷ [])) (vbool b ∷ [], (ptr_val p ∷ [], tt)) $ fjoin t $ s)
 
 module _ {M : Type 1} {𝓤 : Ura M} (𝓛 : Logic 𝓤) (𝓜 : Model 𝓤 𝓛.H) (𝓡 : Running 𝓤 𝓛.H 𝓜) where
   pub fm : FmC 𝓤 𝓛.H 𝓛.laws (tables 𝓤 𝓛.H 𝓜 𝓡 𝓡.env).C

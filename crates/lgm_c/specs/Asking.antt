@@ -1,15 +1,17 @@
 -- The messages that answer queries and filters of peers.
-use Rattle.std.specs.Prelude.{ℕ, List, Result, Ok, Err}
+use Rattle.std.specs.Prelude.{◌≡◌, ℕ, List, Result, Ok, Err}
 use Rattle.lgm_wire.specs.declared.chain_hash.ChainHash.{ChainHash}
+use Rattle.lgm_gossip.specs.Memory.{TakesMemory}
 use Rattle.lgm_store.specs.Rows.{Rows}
+use Rattle.lgm_query.specs.declared.filter.Filter.{Filter}
 use Rattle.lgm_query.specs.declared.request.RequestFault.{RequestFault}
 use Rattle.lgm_query.specs.declared.request.RequestFault.TheVariants as reasons
 use Rattle.lgm_query.specs.Requests.{query_read, replies_to, filter_read}
 use Rattle.lgm_query.specs.Backlog.{backlog, news}
 use Rattle.lgm_c.specs.declared.fault.Fault.{Fault}
 use Rattle.lgm_c.specs.declared.fault.Fault.TheVariants as faults
-use Rattle.lgm_c.specs.Status.{refused}
-use Rattle.lgm_c.specs.Writing.{all_framed}
+use Rattle.lgm_c.specs.Status.{number_of, refused}
+use Rattle.lgm_c.specs.Writing.{all_framed, IsCramped}
 
 abbrev pub fault_of : RequestFault → Fault
 fault_of (reasons.Refused refusal) = refused refusal
@@ -31,3 +33,9 @@ backlog_answer bytes chain rows = framed_answer (filter_read chain bytes) (backl
 
 abbrev pub news_answer : List ℕ → ChainHash → Rows → Rows → Result (List ℕ) Fault
 news_answer bytes chain before after = framed_answer (filter_read chain bytes) (news before after)
+
+-- want of room for what passes a filter is told even if memory is short, unless decoding the message allocates, as no filter does
+abbrev pub TellsRoom : List ℕ → ChainHash → Rows → List ℕ → ℕ → Type 0
+TellsRoom bytes chain rows room status =
+    (filter : Filter) → filter_read chain bytes ≡ Ok filter → (TakesMemory bytes → ⊥)
+    → IsCramped (all_framed (backlog rows filter)) room → status ≡ number_of faults.Room

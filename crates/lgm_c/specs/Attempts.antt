@@ -22,9 +22,9 @@ use Rattle.lgm_route.specs.Reasons.{IsExplained, reason_number}
 use Rattle.lgm_c.specs.declared.argument_fault.ArgumentFault.{ArgumentFault}
 use Rattle.lgm_c.specs.declared.argument_fault.ArgumentFault.TheVariants as wrong
 use Rattle.lgm_c.specs.declared.attempt.LgmAttempt.{LgmAttempt}
-use Rattle.lgm_c.specs.declared.attempt.LgmEdge.{LgmEdge}
-use Rattle.lgm_c.specs.declared.attempt.LgmLimit.{LgmLimit}
-use Rattle.lgm_c.specs.declared.attempt.LgmPoint.{LgmPoint}
+use Rattle.lgm_c.specs.declared.overlay.LgmEdge.{LgmEdge}
+use Rattle.lgm_c.specs.declared.overlay.LgmLimit.{LgmLimit}
+use Rattle.lgm_c.specs.declared.overlay.LgmPoint.{LgmPoint}
 use Rattle.lgm_c.specs.declared.attempt.LgmSearch.{LgmSearch}
 use Rattle.lgm_c.specs.declared.routes.LgmPayment.{LgmPayment}
 use Rattle.lgm_c.specs.declared.fault.Fault.{Fault}
@@ -76,11 +76,12 @@ limits_given search = record {
 }
 
 -- 0 labels are a million, and 0 steps five million
+abbrev pub budget_from : ℕ → ℕ → SearchBudget
+budget_from steps labels =
+    record { most_labels = or_default 1000000 labels; most_steps = or_default 5000000 steps }
+
 abbrev pub budget_given : LgmSearch → SearchBudget
-budget_given search = record {
-  most_labels = or_default 1000000 search.most_labels;
-  most_steps = or_default 5000000 search.most_steps;
-}
+budget_given search = budget_from search.most_steps search.most_labels
 
 -- all zeros
 abbrev pub plain_search : LgmSearch

@@ -6,7 +6,7 @@ use Rattle.lgm_gossip.specs.declared.fault.DecodeFault.{DecodeFault}
 use Rattle.lgm_gossip.specs.declared.fault.DecodeFault.TheVariants as faults
 use Rattle.lgm_gossip.specs.declared.message.Message.{Message}
 use Rattle.lgm_gossip.specs.reading.MessageReading.{message_at}
-use Rattle.lgm_c.specs.Arguments.{argument_word}
+use Rattle.lgm_c.specs.PaymentFaults.{payment_word}
 use Rattle.lgm_c.specs.Status.{no_memory}
 
 abbrev pub decode_number : DecodeFault → ℕ
@@ -36,7 +36,7 @@ abbrev pub TellsFault : List ℕ → ℕ → Type 0
 TellsFault bytes status =
     (status ≡ reading_number (message_at bytes)) ⊎ (TakesMemory bytes × (status ≡ no_memory))
 
--- the words of these numbers, and of those of arguments
+-- the words of these numbers, and of those of payments and arguments
 abbrev pub decode_word : ℕ → List ℕ
 decode_word number =
     if number == 51 then codes "long"
@@ -50,4 +50,4 @@ decode_word number =
     else if number == 59 then codes "tlv-order"
     else if number == 60 then codes "tlv-kind"
     else if number == 61 then codes "flags"
-    else argument_word number
+    else payment_word number

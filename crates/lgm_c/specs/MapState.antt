@@ -10,21 +10,25 @@ pub record MapState : Type 0 where
   -- the known feature bits of nodes, or none if all are known
   pub known : Option (List ℕ)
   pub rows : Rows
-  -- how many messages and closes were accepted
+  -- how many messages and closes were accepted since it was opened
   pub version : ℕ
-  -- the rows at the mark, which are empty before the first mark, and in a published map
+  -- the rows at the mark, before the first mark those with which it was opened; empty in a published map
   pub marked : Rows
 
--- a new map
-abbrev pub opened : List ℕ → Option (List ℕ) → MapState
-opened chain known = record {
+-- a map that is opened with these rows
+abbrev pub begun : List ℕ → Option (List ℕ) → Rows → MapState
+begun chain known rows = record {
   is_published = false;
   chain = record { 0 = chain };
   known = known;
-  rows = empty;
+  rows = rows;
   version = 0;
-  marked = empty;
+  marked = rows;
 }
+
+-- a new map
+abbrev pub opened : List ℕ → Option (List ℕ) → MapState
+opened chain known = begun chain known empty
 
 -- a map as it is now, for good
 abbrev pub published : MapState → MapState

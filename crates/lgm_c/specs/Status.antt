@@ -9,10 +9,22 @@ use Rattle.lgm_route.specs.declared.found.SearchFault.{SearchFault}
 use Rattle.lgm_route.specs.declared.found.SearchFault.TheVariants as searched
 use Rattle.lgm_payload.specs.declared.arrival_fault.ArrivalFault.{ArrivalFault}
 use Rattle.lgm_payload.specs.declared.arrival_fault.ArrivalFault.TheVariants as arrivals
+use Rattle.lgm_save.specs.declared.fault.LoadFault.{LoadFault}
+use Rattle.lgm_save.specs.declared.fault.LoadFault.TheVariants as loads
+use Rattle.lgm_payer_state.specs.declared.state_fault.StateFault.{StateFault}
+use Rattle.lgm_payer_state.specs.declared.state_fault.StateFault.TheVariants as states
+use Rattle.lgm_payer.specs.declared.payer_fault.PayerFault.{PayerFault}
+use Rattle.lgm_payer.specs.declared.payer_fault.PayerFault.TheVariants as told
+use Rattle.lgm_payer.specs.declared.unfound.Unfound.{Unfound}
+use Rattle.lgm_payer.specs.declared.unfound.Unfound.TheVariants as sought
+use Rattle.lgm_payer.specs.declared.unpaid.Unpaid.{Unpaid}
+use Rattle.lgm_payer.specs.declared.unpaid.Unpaid.TheVariants as asked
 use Rattle.lgm_c.specs.declared.argument_fault.ArgumentFault.TheVariants as wrong
+use Rattle.lgm_c.specs.declared.payment_fault.PaymentFault.TheVariants as payments
 use Rattle.lgm_c.specs.declared.fault.Fault.{Fault}
 use Rattle.lgm_c.specs.declared.fault.Fault.TheVariants as faults
 use Rattle.lgm_c.specs.Arguments.{argument_number}
+use Rattle.lgm_c.specs.PaymentFaults.{payment_number}
 
 abbrev pub no_memory : ℕ
 no_memory = 102
@@ -37,6 +49,8 @@ number_of faults.Undecided = 26
 number_of faults.NotQuery = 31
 number_of faults.NotFilter = 32
 number_of faults.NotAnnounced = 33
+number_of faults.NotSaved = 34
+number_of faults.NotReply = 35
 number_of faults.Closed = 100
 number_of faults.Open = 101
 number_of faults.NoMemory = no_memory
@@ -44,6 +58,7 @@ number_of faults.Room = 104
 number_of faults.Full = 105
 number_of faults.Published = 106
 number_of faults.None = 107
+number_of (faults.Payment fault) = payment_number fault
 number_of (faults.Argument fault) = argument_number fault
 
 -- a refusal of an item, and a reason why a payment has no route; out of memory is neither
@@ -66,6 +81,53 @@ unbuilt arrivals.NoMemory = faults.NoMemory
 unbuilt arrivals.Reserved = faults.Argument wrong.RecordType
 unbuilt arrivals.Order = faults.Argument wrong.RecordOrder
 unbuilt arrivals.TooLong = faults.Argument wrong.Payloads
+
+-- why bytes are of no saved map
+abbrev pub unloaded : LoadFault → Fault
+unloaded loads.NotSaved = faults.NotSaved
+unloaded loads.NoMemory = faults.NoMemory
+
+-- why bytes are of no saved payer, or estimates
+abbrev pub unsaved : StateFault → Fault
+unsaved states.Damaged = faults.NotSaved
+unsaved states.NoMemory = faults.NoMemory
+
+-- why a payer can't be told something
+abbrev pub untold : PayerFault → Fault
+untold told.AmountZero = faults.Unrouted reasons.AmountZero
+untold told.NoParts = faults.Payment payments.NoParts
+untold told.NumbersUsedUp = faults.Payment payments.NumbersUsedUp
+untold told.UnknownPayment = faults.Payment payments.UnknownPayment
+untold told.UnknownPart = faults.Payment payments.UnknownPart
+untold told.NotUnderWay = faults.Payment payments.NotUnderWay
+untold told.BeyondRoute = faults.Payment payments.BeyondRoute
+untold told.ForeignCode = faults.Payment payments.ForeignCode
+untold told.NothingUnderWay = faults.Payment payments.NothingUnderWay
+untold told.AlreadyPaid = faults.Payment payments.AlreadyPaid
+untold told.UnderWay = faults.Payment payments.UnderWay
+untold told.NoMemory = faults.NoMemory
+
+-- why a part has no route within the bounds of its payment
+abbrev pub unsent : Unfound → Fault
+unsent (sought.Search reason) = unfound reason
+unsent (sought.TooDear fee) = faults.Payment payments.TooDear
+unsent (sought.Short room) = faults.Payment payments.ChannelsShort
+unsent (sought.PayeeShort room) = faults.Payment payments.PayeeShort
+unsent (sought.PathsShort room) = faults.Payment payments.PathsShort
+
+-- why no part of a payment is sent
+abbrev pub unpaid : Unpaid → Fault
+unpaid asked.UnknownPayment = faults.Payment payments.UnknownPayment
+unpaid asked.ForeignChannel = faults.Payment payments.ForeignChannel
+unpaid asked.ReckonedAhead = faults.Payment payments.ReckonedAhead
+unpaid asked.ReckonedBefore = faults.Payment payments.ReckonedBefore
+unpaid asked.TooManyPoints = faults.Full
+unpaid asked.Abandoned = faults.Payment payments.Abandoned
+unpaid (asked.PayeeRefused code) = faults.Payment payments.PayeeRefused
+unpaid asked.TriesUsedUp = faults.Payment payments.TriesUsedUp
+unpaid (asked.Unfound reason) = unsent reason
+unpaid (asked.Payloads reason) = unbuilt reason
+unpaid asked.NumbersUsedUp = faults.Payment payments.NumbersUsedUp
 
 -- whether a call may run out of memory: one that succeeds may, one that returns a fault only if finding it allocates
 abbrev pub MayRunOut : {A E : Type 0} → Type 0 → Result A E → Type 0

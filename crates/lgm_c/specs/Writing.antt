@@ -1,5 +1,5 @@
 -- The contents of the caller's buffers after a call.
-use Rattle.std.specs.Prelude.{◌≡◌, ◌⊎◌, ℕ, ◌<◌, List, ◌++◌, length, drop, Option, Some, None, Result, Ok, Err}
+use Rattle.std.specs.Prelude.{◌≡◌, ◌⊎◌, ℕ, ◌<◌, ◌^◌, List, ◌++◌, length, drop, Option, Some, None, Result, Ok, Err}
 use Rattle.std.specs.Int.{w64, to_le_bytes}
 use Rattle.std.specs.List.{flat_map}
 use Rattle.lgm_gossip.specs.Memory.{TakesMemory}
@@ -33,6 +33,10 @@ IsWritten bytes status old new =
     (new.needed ≡ length bytes)
     × (((status ≡ 0) × (new.room ≡ in_front bytes old.room))
     ⊎ ((status ≡ number_of faults.Room) × (length old.room < length bytes) × (new.room ≡ old.room)))
+
+-- bytes for which the buffer has no room, and whose length has eight bytes
+abbrev pub IsCramped : List ℕ → List ℕ → Type 0
+IsCramped bytes room = (length room < length bytes) × (length bytes < 2 ^ 64)
 
 -- an answer was written, or its fault was returned
 abbrev pub Writes : Result (List ℕ) Fault → ℕ → Buffer → Buffer → Type 0

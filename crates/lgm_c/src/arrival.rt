@@ -3,7 +3,7 @@
 ghost use Rattle.std.specs.Prelude.{◌≡◌, ◌≤◌, ◌↔◌, List, map, length, IfOk, IsTrue};
 ghost use Rattle.lgm_wire.specs.reading.Reading.{Gives};
 ghost use Rattle.lgm_payload.specs.Arrival.{custom_records};
-ghost use Rattle.lgm_payload.specs.Building.{built_for};
+ghost use Rattle.lgm_payload.specs.Building.{built_for, onion_len};
 ghost use Rattle.lgm_c.specs.Arrivals.{metadata_given, records_given, arrival_given, hop_given, hops_given};
 ghost use Rattle.lgm_c.specs.Arrivals.{Follows, AreJoined, IsRoute, built_or_fault, WritesBuilt, WritesPayloads};
 ghost use Rattle.lgm_c.specs.Routing.{buffers};
@@ -11,7 +11,7 @@ ghost use Rattle.lgm_c.specs.Status.{status_of};
 
 use crate::argument_fault::ArgumentFault;
 use crate::fault::{Fault, status};
-use crate::routes::{LgmHop, LgmLengths, c_hops, joined, write_hops};
+use crate::routes::{LgmHop, LgmLengths, write_hops};
 use lgm_gossip::{Bytes, Point, Scid};
 use lgm_graph::{Hop, Route};
 use lgm_payload::{Arrival, CustomRecord, Payloads, build_for};
@@ -42,7 +42,7 @@ pub struct LgmArrival<'a> {
 }
 
 /// The metadata, copied, if there are any.
-fn metadata_given(alloc: Global, metadata: &[u8]) -> Result<Option<Bytes>, AllocError>
+pub(crate) fn metadata_given(alloc: Global, metadata: &[u8]) -> Result<Option<Bytes>, AllocError>
     ensures { IfOk result (λ given. given ≡ metadata_given metadata.now) }
 {
     match metadata {
@@ -52,7 +52,10 @@ fn metadata_given(alloc: Global, metadata: &[u8]) -> Result<Option<Bytes>, Alloc
 }
 
 /// The custom records, copied.
-fn records_given(alloc: Global, records: &[LgmRecord<'_>]) -> Result<Vec<CustomRecord>, AllocError>
+pub(crate) fn records_given(
+    alloc: Global,
+    records: &[LgmRecord<'_>],
+) -> Result<Vec<CustomRecord>, AllocError>
     ensures { IfOk result (λ given. custom_records given.items ≡ records_given records.now) }
 {
     let mut given = Vec::with_capacity(alloc, records.len())?;
@@ -113,14 +116,14 @@ fn are_joined(hops: &[LgmHop]) -> bool
 }
 
 /// Whether hops are a route.
-fn is_route(hops: &[LgmHop]) -> bool
+pub(crate) fn is_route(hops: &[LgmHop]) -> bool
     ensures { IsTrue result ↔ IsRoute hops.now }
 {
     1 <= hops.len() && hops.len() <= 20 && are_joined(hops)
 }
 
 /// The route of these hops.
-fn route_given(alloc: Global, hops: &[LgmHop]) -> Result<Route, AllocError>
+pub(crate) fn route_given(alloc: Global, hops: &[LgmHop]) -> Result<Route, AllocError>
     requires { IsRoute hops.now }
     ensures { IfOk result (λ route. route ≡ hops_given hops.now) }
 {
@@ -133,7 +136,8 @@ fn route_given(alloc: Global, hops: &[LgmHop]) -> Result<Route, AllocError>
 
 /// The payloads of a route.
 fn payloads_for(alloc: Global, arrival: &LgmArrival<'_>, route: &Route) -> Result<Payloads, Fault>
-    ensures { Gives Fault.NoMemory (λ payloads. payloads) result
+    ensures fits { IfOk result (λ payloads. onion_len payloads ≤ 1300) }
+    ensures exact { Gives Fault.NoMemory (λ payloads. payloads) result
         (built_or_fault (built_for (arrival_given arrival.now) route.now)) }
 {
     let given = arrival_given(alloc, arrival)?;
@@ -156,9 +160,7 @@ fn write_built(
 {
     let route = route_given(alloc, hops)?;
     let built = payloads_for(alloc, arrival, &route)?;
-    let found = c_hops(alloc, route.as_slice(), built.as_slice())?;
-    let joined = joined(alloc, built.as_slice())?;
-    write_hops(&found, &joined, hops, payloads, lengths)
+    write_hops(route.as_slice(), built.as_slice(), hops, payloads, lengths)
 }
 
 /// The payloads of the hops of a route, for what the payee gets beside it, one after the other (BOLT 4, "Payload Format").

@@ -1,72 +1,27 @@
-//! What a payer knows beside the map and prefers, as C says it, and payments over it within limits.
+//! What a payer prefers, as C says it, and payments over what it knows beside the map, within limits.
 
-ghost use Rattle.std.specs.Prelude.{◌≡◌, [], map, nat_eq, IfOk};
+ghost use Rattle.std.specs.Prelude.{◌≡◌, [], IfOk};
 ghost use Rattle.std.specs.List.{list_any};
-ghost use Rattle.lgm_c.specs.Attempts.{extra_given, limit_given, point_given, overlay_given, attempt_of, attempt_given};
+ghost use Rattle.lgm_c.specs.Attempts.{overlay_given, attempt_of, attempt_given};
 ghost use Rattle.lgm_c.specs.Attempts.{plain_attempt, lacks_maximum, wrong_argument};
-ghost use Rattle.lgm_c.specs.Attempts.{preferences_given, limits_given, budget_given, plain_search};
+ghost use Rattle.lgm_c.specs.Attempts.{preferences_given, limits_given, budget_from, budget_given, plain_search};
 
 use crate::argument_fault::ArgumentFault;
+use crate::overlay::{
+    LgmEdge, LgmLimit, LgmPoint, MAX_EDGES, MAX_LIMITS, any_carries_nothing, overlay_of_edges,
+    with_limits, with_silent,
+};
 use crate::routes::{LgmPayment, request_of};
-use lgm_gossip::{Point, Scid};
-use lgm_graph::{Estimates, ExtraEdge, Limit, Overlay};
+use lgm_graph::{Estimates, Overlay};
 use lgm_route::{Preferences, Request, RouteLimits, Search, SearchBudget};
 use std::alloc::{AllocError, Global};
 use std::marker::Model;
 
-/// The most edges beside the map's of one call, so that a view numbers their nodes behind those of any map.
-pub(crate) const MOST_EDGES: usize = 100_000;
-
-/// The most limits of one call.
-pub(crate) const MOST_LIMITS: usize = 300_000;
-
 /// The most steps of a search for which none are given: some 0.2 seconds.
-pub(crate) const MOST_STEPS: u64 = 5_000_000;
+pub(crate) const MAX_STEPS: u64 = 5_000_000;
 
 /// The most labels of such a search: some 50 MB.
-pub(crate) const MOST_LABELS: usize = 1_000_000;
-
-/// An edge beside the map's: a channel of the payer's, or a hint of an invoice (BOLT 11, `r`).
-#[repr(C)]
-#[derive(Clone, Copy)]
-pub struct LgmEdge {
-    /// The channel, as the node that the edge leaves resolves it.
-    pub scid: u64,
-    /// The least amount of a payment over it, in msat.
-    pub htlc_minimum_msat: u64,
-    /// The greatest amount that it carries, in msat: at least 1.
-    pub htlc_maximum_msat: u64,
-    /// The base fee, in msat.
-    pub fee_base_msat: u32,
-    /// The proportional fee, in millionths.
-    pub fee_proportional_millionths: u32,
-    /// The `cltv_expiry_delta`, in blocks.
-    pub cltv_expiry_delta: u16,
-    /// The node that it leaves.
-    pub from: [u8; 33],
-    /// The node that it leads to.
-    pub to: [u8; 33],
-}
-
-/// What the edge with an id out of a node carries at most.
-#[repr(C)]
-#[derive(Clone, Copy)]
-pub struct LgmLimit {
-    /// The channel.
-    pub scid: u64,
-    /// The greatest amount, in msat: 0 excludes the edge.
-    pub most_msat: u64,
-    /// The node that the edge leaves.
-    pub from: [u8; 33],
-}
-
-/// A node.
-#[repr(C)]
-#[derive(Clone, Copy)]
-pub struct LgmPoint {
-    /// Its compressed public key.
-    pub point: [u8; 33],
-}
+pub(crate) const MAX_LABELS: usize = 1_000_000;
 
 /// What a payer prefers, and limits of its route and of the search for it. All zeros prefer nothing, and limit nothing but
 /// the search.
@@ -104,6 +59,16 @@ pub struct LgmAttempt<'a> {
     pub search: LgmSearch,
 }
 
+/// So many steps and labels of a search, of which 0 stands for the usual ones.
+pub(crate) fn budget_of(steps: u64, labels: usize) -> SearchBudget
+    ensures { result ≡ budget_from steps labels }
+{
+    SearchBudget {
+        most_labels: if labels == 0 { MAX_LABELS } else { labels },
+        most_steps: if steps == 0 { MAX_STEPS } else { steps },
+    }
+}
+
 impl LgmSearch {
     /// All zeros.
     fn plain() -> LgmSearch
@@ -136,23 +101,6 @@ impl LgmSearch {
         }
     }
 
-    fn budget(&self) -> SearchBudget
-        ensures { result ≡ budget_given self.now }
-    {
-        SearchBudget {
-            most_labels: if self.most_labels == 0 {
-                MOST_LABELS
-            } else {
-                self.most_labels
-            },
-            most_steps: if self.most_steps == 0 {
-                MOST_STEPS
-            } else {
-                self.most_steps
-            },
-        }
-    }
-
     /// How a route is sought, with what is believed of edges.
     fn with<'e>(&self, estimates: &'e Estimates) -> Search<'e>
         ensures preferences { result.preferences ≡ preferences_given self.now }
@@ -167,76 +115,9 @@ impl LgmSearch {
             },
             estimates,
             limits: self.limits(),
-            budget: self.budget(),
+            budget: budget_of(self.most_steps, self.most_labels),
         }
     }
-}
-
-/// Whether the maximum of one of the edges is 0 msat.
-fn any_carries_nothing(edges: &[LgmEdge]) -> bool
-    ensures { result ≡ list_any (λ edge. nat_eq edge.htlc_maximum_msat 0) edges.now }
-{
-    edges.iter().any(|edge| edge.htlc_maximum_msat == 0)
-}
-
-fn extra_edge(edge: &LgmEdge) -> ExtraEdge
-    ensures { result ≡ extra_given edge.now }
-{
-    ExtraEdge {
-        scid: Scid::from_u64(edge.scid),
-        from: Point(edge.from),
-        to: Point(edge.to),
-        base: edge.fee_base_msat,
-        millionths: edge.fee_proportional_millionths,
-        delta: edge.cltv_expiry_delta,
-        min: edge.htlc_minimum_msat,
-        max: edge.htlc_maximum_msat,
-    }
-}
-
-fn limit_of(limit: &LgmLimit) -> Limit
-    ensures { result ≡ limit_given limit.now }
-{
-    Limit {
-        scid: Scid::from_u64(limit.scid),
-        from: Point(limit.from),
-        most: limit.most_msat,
-    }
-}
-
-/// An overlay of edges alone.
-fn overlay_of_edges(alloc: Global, edges: &[LgmEdge]) -> Result<Overlay, AllocError>
-    ensures { IfOk result (λ overlay. overlay ≡ overlay_given edges.now [] []) }
-{
-    let mut overlay = Overlay::new(alloc);
-    for edge in edges {
-        overlay.add(extra_edge(edge))?;
-    }
-    Ok(overlay)
-}
-
-/// Adds limits to an overlay without any.
-fn with_limits(overlay: Overlay, limits: &[LgmLimit]) -> Result<Overlay, AllocError>
-    requires { overlay.limits ≡ [] }
-    ensures { IfOk result (λ limited. limited ≡ record overlay { limits = map limit_given limits.now }) }
-{
-    let mut limited = overlay;
-    for limit in limits {
-        limited.limit(limit_of(limit))?;
-    }
-    Ok(limited)
-}
-
-/// Adds silent nodes to an overlay without any.
-fn with_silent(overlay: Overlay, silent: &[LgmPoint]) -> Result<Overlay, AllocError>
-    requires { overlay.silent ≡ [] }
-    ensures { IfOk result (λ silenced. silenced ≡ record overlay { silent = map point_given silent.now }) }
-{
-    let mut silenced = overlay;
-    for node in silent {
-        silenced.silence(Point(node.point))?;
-    }
-    Ok(silenced)
 }
 
 /// A payment over what its payer knows and prefers, within limits. Contracts see the request, the overlay, what is known of
@@ -336,9 +217,9 @@ impl<'a, 'e> Attempt<'a, 'e> {
     pub(crate) fn wrong_argument(&self) -> Option<ArgumentFault>
         ensures { result ≡ wrong_argument self.now.overlay }
     {
-        if MOST_EDGES < self.edges.len() {
+        if MAX_EDGES < self.edges.len() {
             Some(ArgumentFault::Edges)
-        } else if MOST_LIMITS < self.limits.len() {
+        } else if MAX_LIMITS < self.limits.len() {
             Some(ArgumentFault::Limits)
         } else if self.lacks_maximum() {
             Some(ArgumentFault::Maximum)
@@ -347,7 +228,7 @@ impl<'a, 'e> Attempt<'a, 'e> {
         }
     }
 
-    /// What is known beside the map. The only error is out of memory.
+    /// What is known beside the map.
     pub(crate) fn overlay(&self, alloc: Global) -> Result<Overlay, AllocError>
         ensures { IfOk result (λ overlay. overlay ≡ self.now.overlay) }
     {

@@ -1,31 +1,40 @@
 //! What a handle points to.
 
-ghost use Rattle.std.specs.Prelude.{◌≡◌, true, Some, IfOk};
+ghost use Rattle.std.specs.Prelude.{◌≡◌, ◌≤◌, ℕ, true, Some, length, IfOk, OnErr};
 ghost use Rattle.lgm_query.specs.Backlog.{news};
-ghost use Rattle.lgm_c.specs.MapState.{opened, published};
+ghost use Rattle.lgm_c.specs.MapState.{begun, published};
 ghost use Rattle.lgm_c.specs.Offering.{Offers, Closes, Bans};
 ghost use Rattle.lgm_c.specs.Opening.{MovesMark};
 ghost use Rattle.lgm_c.specs.Status.{status_of};
 ghost use Rattle.lgm_c.specs.Writing.{all_framed, buffer};
 ghost use Rattle.lgm_c.specs.inner.Framing.{MayWrite};
 ghost use Rattle.lgm_c.specs.Attempts.{ExplainsIn};
+ghost use Rattle.lgm_c.specs.Paying.{seen_given};
+ghost use Rattle.lgm_c.specs.Pruning.{entries, Prunes};
 ghost use Rattle.lgm_c.specs.inner.Searching.{IsRouted};
+ghost use Rattle.lgm_c.specs.inner.Sending.{Fits, SendsNext};
 
 use crate::argument_fault::ArgumentFault;
 use crate::attempt::Attempt;
 use crate::fault::Fault;
-use crate::frames::{write_first_news, write_marked_news};
+use crate::frames::{write_backlog, write_marked_news};
+use crate::given::all_given;
+use crate::next_part::{LgmSight, next_over};
+use crate::overlay::extra_edge;
+use crate::pruning::{LgmPruned, close_stale};
 use crate::search::{is_searched, reason, reason_number, search};
-use crate::verdict::{ban, close, offer};
+use crate::verdict::{ban, offer};
 use lgm_check::Evidence;
 use lgm_gossip::{ChainHash, Point, Scid};
 use lgm_graph::{Known, Network};
+use lgm_payer::{Payer, Sending, Unpaid};
 use lgm_query::Filter;
 use lgm_route::Found;
-use lgm_store::{Map, Seed};
+use lgm_store::Map;
 use lgm_timeline::{Edition, Timeline};
 use std::alloc::{AllocError, Global};
 use std::marker::Model;
+use std::sync::Arc;
 
 /// What a handle has of a map.
 #[derive(Drop)]
@@ -33,7 +42,7 @@ pub enum MapKind {
     /// One that changes.
     Changing(Timeline),
     /// One as it was when it was published.
-    Published(Edition),
+    Published(Arc<Edition>),
 }
 
 /// A map of a chain, which changes or was published. Contracts see one value, whichever it is.
@@ -48,22 +57,24 @@ impl Model for ChainMap {
 
     ghost Value = { MapState };
 
-    ghost use Rattle.lgm_c.specs.inner.Kinds.{state_in};
+    ghost use Rattle.lgm_c.specs.inner.Kinds.{state_in, IsReadyKind};
 
     ghost view = { λ s. state_in s.chain s.kind };
+
+    ghost invariant = { λ s. IsReadyKind s.kind };
 }
 
 impl ChainMap {
-    /// A map with no rows, and its mark, whose points are hashed by the seed. The only error is out of memory.
-    pub(crate) fn new(
+    /// A map, at which its mark is.
+    pub(crate) fn of(
         alloc: Global,
         chain: ChainHash,
         known: Known,
-        seed: Seed,
+        map: Map,
     ) -> Result<ChainMap, AllocError>
-        ensures { IfOk result (λ state. state ≡ opened chain.0 known) }
+        ensures { IfOk result (λ state. state ≡ begun chain.0 known map) }
     {
-        let network = Network::new(alloc, seed, &known)?;
+        let network = Network::of(alloc, map, &known)?;
         Ok(ChainMap {
             chain,
             kind: MapKind::Changing(Timeline::new(alloc, network)),
@@ -93,7 +104,7 @@ impl ChainMap {
         ensures { Closes scid (status_of result) (Some self.old) (Some self.new) }
     {
         match &mut self.kind {
-            MapKind::Changing(timeline) => Ok(close(alloc, timeline, scid)?),
+            MapKind::Changing(timeline) => Ok(timeline.offer_close(alloc, scid)?),
             MapKind::Published(_) => Err(Fault::Published),
         }
     }
@@ -104,6 +115,26 @@ impl ChainMap {
     {
         match &mut self.kind {
             MapKind::Changing(timeline) => Ok(ban(alloc, timeline, point)?),
+            MapKind::Published(_) => Err(Fault::Published),
+        }
+    }
+
+    /// Closes the channels whose latest updates are from before a time, and those without one below a block, and tells which.
+    pub(crate) fn prune(
+        &mut self,
+        alloc: Global,
+        before: u32,
+        block: u32,
+        room: &mut [LgmPruned],
+        needed: &mut usize,
+    ) -> Result<(), Fault>
+        ensures { Prunes before block (status_of result) (Some self.old) (Some self.new)
+            (entries room.old needed.old) (entries room.new needed.new) }
+    {
+        match &mut self.kind {
+            MapKind::Changing(timeline) => {
+                close_stale(alloc, timeline, before, block, room, needed)
+            }
             MapKind::Published(_) => Err(Fault::Published),
         }
     }
@@ -134,7 +165,7 @@ impl ChainMap {
         match &mut self.kind {
             MapKind::Changing(timeline) => write_marked_news(alloc, timeline, filter, room, needed),
             MapKind::Published(edition) => {
-                write_first_news(alloc, edition.network().map(), filter, room, needed)
+                write_backlog(alloc, edition.network().map(), filter, room, needed)
             }
         }
     }
@@ -175,14 +206,41 @@ impl ChainMap {
         }
     }
 
-    /// The map as it is now, for good. The only error is out of memory.
+    /// Asks a payer for the next part of a payment. An error comes before it is asked.
+    pub(crate) fn next_part(
+        &mut self,
+        alloc: Global,
+        payer: &mut Payer,
+        payment: u64,
+        sight: &LgmSight<'_>,
+    ) -> Result<Result<Option<Sending>, Unpaid>, AllocError>
+        requires { length self.old.rows.channels ≤ 2000000000 }
+        ensures same { self.new ≡ self.old }
+        ensures next { IfOk result (λ answer. (points : ℕ)
+            × SendsNext (seen_given sight.now self.old points) payment payer.old payer.new answer) }
+        ensures fits { IfOk result Fits }
+        ensures stays { OnErr result (payer.new ≡ payer.old) }
+    {
+        let own = all_given(alloc, sight.channels, extra_edge)?;
+        match &mut self.kind {
+            MapKind::Changing(timeline) => {
+                timeline.make_view(alloc)?;
+                Ok(next_over(alloc, timeline.network(), payer, payment, sight, &own))
+            }
+            MapKind::Published(edition) => {
+                Ok(next_over(alloc, edition.network(), payer, payment, sight, &own))
+            }
+        }
+    }
+
+    /// The map as it is now, for good.
     pub(crate) fn publish(&mut self, alloc: Global) -> Result<ChainMap, AllocError>
         ensures same { self.new ≡ self.old }
         ensures published { IfOk result (λ state. state ≡ published self.old) }
     {
         let edition = match &mut self.kind {
             MapKind::Changing(timeline) => timeline.publish(alloc)?,
-            MapKind::Published(edition) => edition.share()?,
+            MapKind::Published(edition) => Arc::try_clone(edition)?,
         };
         Ok(ChainMap {
             chain: self.chain,
@@ -205,7 +263,7 @@ impl ChainMap {
         &self.chain
     }
 
-    /// The map.
+    /// The map that calls read: the newest one, or the one that was published.
     pub(crate) fn map(&self) -> &Map
         ensures { result.now ≡ self.now.rows }
     {

@@ -6,18 +6,18 @@ ghost use Rattle.lgm_c.specs.Evidence.{evidence_of};
 ghost use Rattle.lgm_c.specs.MapState.{opened};
 ghost use Rattle.lgm_c.specs.Opening.{known_of, Opens};
 
-use crate::boxes::boxed;
 use crate::chain_map::ChainMap;
 use crate::evidence::evidence;
 use crate::fault::{Fault, status};
-use crate::lgm_map::{LgmMap, with_state};
+use crate::handle::{Handle, with_held};
+use crate::map_handle::LgmMap;
 use lgm_gossip::{ChainHash, Point, Scid};
 use lgm_graph::Known;
-use lgm_store::Seed;
+use lgm_store::{Map, Seed};
 use std::alloc::{AllocError, Global};
 
 /// The feature bits of nodes that are known: all, or those that are set.
-fn known_bits(alloc: Global, all: bool, bits: &[u8]) -> Result<Known, AllocError>
+pub(crate) fn known_bits(alloc: Global, all: bool, bits: &[u8]) -> Result<Known, AllocError>
     ensures { IfOk result (λ known. known ≡ known_of all bits.now) }
 {
     if all {
@@ -27,19 +27,19 @@ fn known_bits(alloc: Global, all: bool, bits: &[u8]) -> Result<Known, AllocError
     }
 }
 
+/// A map without channels and nodes, whose points are hashed by the seed.
 fn new_map(
     alloc: Global,
     chain: &[u8; 32],
     all_known: bool,
     known: &[u8],
     seed: &[u8; 16],
-) -> Result<Box<ChainMap>, AllocError>
-    ensures { IfOk result (λ inner.
-        inner.value ≡ opened chain.now (known_of all_known known.now)) }
+) -> Result<ChainMap, AllocError>
+    ensures { IfOk result (λ state. state ≡ opened chain.now (known_of all_known known.now)) }
 {
     let known = known_bits(alloc, all_known, known)?;
-    let inner = ChainMap::new(alloc, ChainHash(*chain), known, Seed::new(*seed))?;
-    boxed(alloc, inner)
+    let map = Map::with_seed(alloc, Seed::new(*seed))?;
+    ChainMap::of(alloc, ChainHash(*chain), known, map)
 }
 
 /// Opens a handle, with a map without channels and nodes.
@@ -53,17 +53,13 @@ pub extern "C" fn lgm_open(
     seed: &[u8; 16],
 ) -> u32
     ensures { Opens (opened chain.now (known_of all_known known.now)) result
-        map.old.handle.value map.new.handle.value }
+        map.old.value map.new.value }
 {
-    if let Some(inner) = map.take(alloc) {
-        *map = LgmMap::open(inner);
+    if map.is_open() {
         return Fault::Open.number();
     }
     match new_map(alloc, chain, all_known, known, seed) {
-        Ok(inner) => {
-            *map = LgmMap::open(inner);
-            0
-        }
+        Ok(state) => map.fill(alloc, state),
         Err(_) => Fault::NoMemory.number(),
     }
 }
@@ -80,9 +76,9 @@ pub extern "C" fn lgm_offer(
     sat: u64,
 ) -> u32
     ensures { Offers message.now (evidence_of sig signer.now funding sat) result
-        map.old.handle.value map.new.handle.value }
+        map.old.value map.new.value }
 {
-    with_state!(alloc, map, |state| {
+    with_held!(alloc, map, |state| {
         let evidence = evidence(sig, signer, funding, sat);
         status(&state.offer(alloc, message, evidence))
     })
@@ -91,9 +87,9 @@ pub extern "C" fn lgm_offer(
 /// Closes a channel, since its funding output is spent.
 #[unsafe(no_mangle)]
 pub extern "C" fn lgm_close_channel(alloc: Global, map: &mut LgmMap, scid: u64) -> u32
-    ensures { Closes scid result map.old.handle.value map.new.handle.value }
+    ensures { Closes scid result map.old.value map.new.value }
 {
-    with_state!(
+    with_held!(
         alloc,
         map,
         |state| status(&state.close(alloc, Scid::from_u64(scid)))
@@ -103,15 +99,15 @@ pub extern "C" fn lgm_close_channel(alloc: Global, map: &mut LgmMap, scid: u64) 
 /// Bans a node, and removes its channels, as contradicting announcements ban theirs.
 #[unsafe(no_mangle)]
 pub extern "C" fn lgm_ban(alloc: Global, map: &mut LgmMap, point: &[u8; 33]) -> u32
-    ensures { Bans point.now result map.old.handle.value map.new.handle.value }
+    ensures { Bans point.now result map.old.value map.new.value }
 {
-    with_state!(alloc, map, |state| status(&state.ban(alloc, Point(*point))))
+    with_held!(alloc, map, |state| status(&state.ban(alloc, Point(*point))))
 }
 
 /// Frees the map of a handle, if it is open, and closes the handle. A published map is freed with its last owner.
 #[unsafe(no_mangle)]
 pub extern "C" fn lgm_free(alloc: Global, map: &mut LgmMap)
-    ensures { map.new.handle.value ≡ None }
+    ensures { map.new.value ≡ None }
 {
     map.take(alloc);
 }

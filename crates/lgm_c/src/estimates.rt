@@ -1,29 +1,17 @@
-//! What a payer has learnt of edges: a handle of its own, as C stores it, and its calls.
+//! What a payer has learnt of edges: the calls on a handle of estimates.
 
-ghost use Rattle.std.specs.Prelude.{◌≡◌, [], Some, None, is_some};
-ghost use Rattle.std.specs.Option.{option_map};
+ghost use Rattle.std.specs.Prelude.{◌≡◌, [], Some, None};
 ghost use Rattle.lgm_c.specs.Estimating.{Carries, FailsAt, Forgets, Sets, c_estimate, count_of};
 ghost use Rattle.lgm_c.specs.Estimating.{entry_at, estimate_found, estimate_given, named};
 ghost use Rattle.lgm_c.specs.Opening.{Opens};
 ghost use Rattle.lgm_c.specs.Status.{if_open, status_of, Finds};
 
-use crate::boxes::boxed;
-use crate::estimates_handle::EstimatesHandle;
+use crate::estimates_handle::LgmEstimates;
 use crate::fault::{Fault, status};
-use crate::raw_box::RawBox;
+use crate::handle::{Handle, with_held};
 use lgm_gossip::{Point, Scid};
 use lgm_graph::{Estimate, Estimates};
 use std::alloc::Global;
-use std::mem::replace;
-
-/// A handle of 16 bytes, which C stores: what a payer has learnt of edges, or none. All zeros are a closed handle.
-#[repr(C)]
-#[derive(Drop)]
-pub struct LgmEstimates {
-    is_open: bool,
-    pub(crate) handle: EstimatesHandle,
-    ghost sound: { is_open ≡ is_some handle.value },
-}
 
 /// What a payer believes of an edge.
 #[repr(C)]
@@ -37,85 +25,21 @@ pub struct LgmEstimate {
     pub penalty_msat: u64,
 }
 
-impl LgmEstimates {
-    /// A closed handle.
-    pub(crate) fn closed() -> LgmEstimates
-        ensures { result.handle.value ≡ None }
-    {
-        LgmEstimates {
-            is_open: false,
-            handle: EstimatesHandle::none(),
-        }
-    }
-
-    /// An open handle of estimates.
-    pub(crate) fn open(held: Box<Estimates>) -> LgmEstimates
-        ensures { result.handle.value ≡ Some held.value }
-    {
-        LgmEstimates {
-            is_open: true,
-            handle: EstimatesHandle::of(RawBox::of(held)),
-        }
-    }
-
-    /// Whether it is open.
-    pub(crate) fn is_open(&self) -> bool
-        ensures { result ≡ is_some self.now.handle.value }
-    {
-        self.is_open
-    }
-
-    /// Takes the estimates out, if there are some, and closes the handle.
-    pub(crate) fn take(&mut self, alloc: Global) -> Option<Box<Estimates>>
-        ensures left { self.new.handle.value ≡ None }
-        ensures taken { option_map (λ held. held.value) result ≡ self.old.handle.value }
-    {
-        if !self.is_open {
-            return None;
-        }
-        let LgmEstimates { is_open: _, handle } = replace(self, LgmEstimates::closed());
-        Some(handle.into_loose(alloc).into_box())
-    }
-}
-
-/// The form of each call on a handle of estimates, as `with_state` is of those on a map.
-macro_rules! with_estimates {
-    ($alloc:ident, $estimates:ident, |$held:ident| $answer:expr) => {
-        with_estimates!($alloc, $estimates, Fault::Closed.number(), |$held| $answer)
-    };
-    ($alloc:ident, $estimates:ident, $closed:expr, |$held:ident| $answer:expr) => {
-        match $estimates.take($alloc) {
-            Some(mut $held) => {
-                let answer = $answer;
-                *$estimates = LgmEstimates::open($held);
-                answer
-            }
-            None => $closed,
-        }
-    };
-}
-
 /// Opens a closed handle: nothing is known.
 #[unsafe(no_mangle)]
 pub extern "C" fn lgm_estimates_open(alloc: Global, estimates: &mut LgmEstimates) -> u32
-    ensures { Opens [] result estimates.old.handle.value estimates.new.handle.value }
+    ensures { Opens [] result estimates.old.value estimates.new.value }
 {
     if estimates.is_open() {
         return Fault::Open.number();
     }
-    match boxed(alloc, Estimates::new(alloc)) {
-        Ok(held) => {
-            *estimates = LgmEstimates::open(held);
-            0
-        }
-        Err(_) => Fault::NoMemory.number(),
-    }
+    estimates.fill(alloc, Estimates::new(alloc))
 }
 
 /// Frees what a handle has, if it is open, and closes it.
 #[unsafe(no_mangle)]
 pub extern "C" fn lgm_estimates_free(alloc: Global, estimates: &mut LgmEstimates)
-    ensures { estimates.new.handle.value ≡ None }
+    ensures { estimates.new.value ≡ None }
 {
     estimates.take(alloc);
 }
@@ -123,10 +47,10 @@ pub extern "C" fn lgm_estimates_free(alloc: Global, estimates: &mut LgmEstimates
 /// The number of edges of which something is known: 0 of a closed handle.
 #[unsafe(no_mangle)]
 pub extern "C" fn lgm_estimates_count(alloc: Global, estimates: &mut LgmEstimates) -> usize
-    ensures same { estimates.new.handle.value ≡ estimates.old.handle.value }
-    ensures count { result ≡ count_of estimates.old.handle.value }
+    ensures same { estimates.new.value ≡ estimates.old.value }
+    ensures count { result ≡ count_of estimates.old.value }
 {
-    with_estimates!(alloc, estimates, 0, |held| held.len())
+    with_held!(alloc, estimates, 0, |held| held.len())
 }
 
 fn c_estimate(estimate: Estimate) -> LgmEstimate
@@ -161,11 +85,11 @@ pub extern "C" fn lgm_estimate(
     from: &[u8; 33],
     estimate: &mut LgmEstimate,
 ) -> u32
-    ensures same { estimates.new.handle.value ≡ estimates.old.handle.value }
-    ensures estimate { Finds (if_open estimates.old.handle.value (estimate_found scid from.now)) result
+    ensures same { estimates.new.value ≡ estimates.old.value }
+    ensures estimate { Finds (if_open estimates.old.value (estimate_found scid from.now)) result
         estimate.old estimate.new }
 {
-    with_estimates!(
+    with_held!(
         alloc,
         estimates,
         |held| status(&write_estimate(&held, scid, from, estimate))
@@ -203,11 +127,11 @@ pub extern "C" fn lgm_estimates_at(
     from: &mut [u8; 33],
     estimate: &mut LgmEstimate,
 ) -> u32
-    ensures same { estimates.new.handle.value ≡ estimates.old.handle.value }
-    ensures entry { Finds (if_open estimates.old.handle.value (entry_at place)) result
+    ensures same { estimates.new.value ≡ estimates.old.value }
+    ensures entry { Finds (if_open estimates.old.value (entry_at place)) result
         (named scid.old from.old estimate.old) (named scid.new from.new estimate.new) }
 {
-    with_estimates!(
+    with_held!(
         alloc,
         estimates,
         |held| status(&write_entry(&held, place, scid, from, estimate))
@@ -250,9 +174,9 @@ pub extern "C" fn lgm_estimates_set(
     estimate: &LgmEstimate,
 ) -> u32
     ensures { Sets scid from.now estimate.now result
-        estimates.old.handle.value estimates.new.handle.value }
+        estimates.old.value estimates.new.value }
 {
-    with_estimates!(
+    with_held!(
         alloc,
         estimates,
         |held| status(&set(&mut held, scid, from, estimate))
@@ -276,9 +200,9 @@ pub extern "C" fn lgm_estimates_carried(
     amount_msat: u64,
 ) -> u32
     ensures { Carries scid from.now amount_msat result
-        estimates.old.handle.value estimates.new.handle.value }
+        estimates.old.value estimates.new.value }
 {
-    with_estimates!(
+    with_held!(
         alloc,
         estimates,
         |held| status(&carried(&mut held, scid, from, amount_msat))
@@ -302,9 +226,9 @@ pub extern "C" fn lgm_estimates_failed(
     amount_msat: u64,
 ) -> u32
     ensures { FailsAt scid from.now amount_msat result
-        estimates.old.handle.value estimates.new.handle.value }
+        estimates.old.value estimates.new.value }
 {
-    with_estimates!(
+    with_held!(
         alloc,
         estimates,
         |held| status(&failed(&mut held, scid, from, amount_msat))
@@ -329,9 +253,9 @@ pub extern "C" fn lgm_estimates_forget(
     scid: u64,
     from: &[u8; 33],
 ) -> u32
-    ensures { Forgets scid from.now result estimates.old.handle.value estimates.new.handle.value }
+    ensures { Forgets scid from.now result estimates.old.value estimates.new.value }
 {
-    with_estimates!(
+    with_held!(
         alloc,
         estimates,
         |held| status(&forget(&mut held, scid, from))

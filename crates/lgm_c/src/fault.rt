@@ -2,14 +2,20 @@
 
 ghost use Rattle.std.specs.Prelude.{◌≡◌};
 ghost use Rattle.lgm_c.specs.Asking.{fault_of};
-ghost use Rattle.lgm_c.specs.Status.{number_of, status_of, refused, unrouted, unfound, unbuilt};
+ghost use Rattle.lgm_c.specs.Status.{number_of, status_of, refused, unrouted, unfound, unbuilt, unsaved, untold, unsent, unpaid, unloaded};
+ghost use Rattle.lgm_c.specs.Syncing.{unreplied};
 ghost use Rattle.lgm_c.specs.declared.fault.Fault.TheVariants.{NoMemory, Argument};
 
 use crate::argument_fault::ArgumentFault;
+use crate::payment_fault::PaymentFault;
 use lgm_check::Refusal;
+use lgm_payer::{PayerFault, Unfound, Unpaid};
+use lgm_payer_state::StateFault;
 use lgm_payload::ArrivalFault;
 use lgm_query::RequestFault;
 use lgm_route::{RouteFault, SearchFault};
+use lgm_save::LoadFault;
+use lgm_sync::ReplyFault;
 use std::alloc::AllocError;
 
 /// Why a call failed. It left the map unchanged, and the buffers that it was to write to but for what comes with
@@ -28,6 +34,10 @@ pub(crate) enum Fault {
     NotFilter,
     /// 33: the map has no announcement of the node.
     NotAnnounced,
+    /// 34: the bytes aren't those of a saved map of this chain, payer or estimates.
+    NotSaved,
+    /// 35: the message isn't a reply to a query of a range.
+    NotReply,
     /// 100: the handle is closed.
     Closed,
     /// 101: the handle is open already.
@@ -42,6 +52,8 @@ pub(crate) enum Fault {
     Published,
     /// 107: there is none: no key above the given one, or no such message.
     None,
+    /// 71 to 93: a payer sends nothing for a payment, or can't be told something of it.
+    Payment(PaymentFault),
     /// 110 to 120: an argument is wrong.
     Argument(ArgumentFault),
 }
@@ -66,6 +78,8 @@ impl Fault {
             Fault::NotQuery => 31,
             Fault::NotFilter => 32,
             Fault::NotAnnounced => 33,
+            Fault::NotSaved => 34,
+            Fault::NotReply => 35,
             Fault::Closed => 100,
             Fault::Open => 101,
             Fault::NoMemory => 102,
@@ -73,6 +87,7 @@ impl Fault {
             Fault::Full => 105,
             Fault::Published => 106,
             Fault::None => 107,
+            Fault::Payment(fault) => fault.number(),
             Fault::Argument(fault) => fault.number(),
         }
     }
@@ -119,6 +134,17 @@ impl From<RequestFault> for Fault {
     }
 }
 
+impl From<ReplyFault> for Fault {
+    ghost from_gives = { λ reason fault. fault ≡ unreplied reason };
+
+    fn from(reason: ReplyFault) -> Fault {
+        match reason {
+            ReplyFault::Refused(refusal) => Fault::from(refusal),
+            ReplyFault::NotReply => Fault::NotReply,
+        }
+    }
+}
+
 impl From<RouteFault> for Fault {
     ghost from_gives = { λ reason fault. fault ≡ unrouted reason };
 
@@ -158,6 +184,83 @@ impl From<ArrivalFault> for Fault {
             ArrivalFault::Reserved => Fault::Argument(ArgumentFault::RecordType),
             ArrivalFault::Order => Fault::Argument(ArgumentFault::RecordOrder),
             ArrivalFault::TooLong => Fault::Argument(ArgumentFault::Payloads),
+        }
+    }
+}
+
+impl From<LoadFault> for Fault {
+    ghost from_gives = { λ reason fault. fault ≡ unloaded reason };
+
+    fn from(reason: LoadFault) -> Fault {
+        match reason {
+            LoadFault::NotSaved => Fault::NotSaved,
+            LoadFault::NoMemory => Fault::NoMemory,
+        }
+    }
+}
+
+impl From<StateFault> for Fault {
+    ghost from_gives = { λ reason fault. fault ≡ unsaved reason };
+
+    fn from(reason: StateFault) -> Fault {
+        match reason {
+            StateFault::Damaged => Fault::NotSaved,
+            StateFault::NoMemory => Fault::NoMemory,
+        }
+    }
+}
+
+impl From<PayerFault> for Fault {
+    ghost from_gives = { λ reason fault. fault ≡ untold reason };
+
+    fn from(reason: PayerFault) -> Fault {
+        match reason {
+            PayerFault::AmountZero => Fault::Unrouted(RouteFault::AmountZero),
+            PayerFault::NoParts => Fault::Payment(PaymentFault::NoParts),
+            PayerFault::NumbersUsedUp => Fault::Payment(PaymentFault::NumbersUsedUp),
+            PayerFault::UnknownPayment => Fault::Payment(PaymentFault::UnknownPayment),
+            PayerFault::UnknownPart => Fault::Payment(PaymentFault::UnknownPart),
+            PayerFault::NotUnderWay => Fault::Payment(PaymentFault::NotUnderWay),
+            PayerFault::BeyondRoute => Fault::Payment(PaymentFault::BeyondRoute),
+            PayerFault::ForeignCode => Fault::Payment(PaymentFault::ForeignCode),
+            PayerFault::NothingUnderWay => Fault::Payment(PaymentFault::NothingUnderWay),
+            PayerFault::AlreadyPaid => Fault::Payment(PaymentFault::AlreadyPaid),
+            PayerFault::UnderWay => Fault::Payment(PaymentFault::UnderWay),
+            PayerFault::NoMemory => Fault::NoMemory,
+        }
+    }
+}
+
+impl From<Unfound> for Fault {
+    ghost from_gives = { λ reason fault. fault ≡ unsent reason };
+
+    fn from(reason: Unfound) -> Fault {
+        match reason {
+            Unfound::Search(reason) => Fault::from(reason),
+            Unfound::TooDear(_) => Fault::Payment(PaymentFault::TooDear),
+            Unfound::Short(_) => Fault::Payment(PaymentFault::ChannelsShort),
+            Unfound::PayeeShort(_) => Fault::Payment(PaymentFault::PayeeShort),
+            Unfound::PathsShort(_) => Fault::Payment(PaymentFault::PathsShort),
+        }
+    }
+}
+
+impl From<Unpaid> for Fault {
+    ghost from_gives = { λ reason fault. fault ≡ unpaid reason };
+
+    fn from(reason: Unpaid) -> Fault {
+        match reason {
+            Unpaid::UnknownPayment => Fault::Payment(PaymentFault::UnknownPayment),
+            Unpaid::ForeignChannel => Fault::Payment(PaymentFault::ForeignChannel),
+            Unpaid::ReckonedAhead => Fault::Payment(PaymentFault::ReckonedAhead),
+            Unpaid::ReckonedBefore => Fault::Payment(PaymentFault::ReckonedBefore),
+            Unpaid::TooManyPoints => Fault::Full,
+            Unpaid::Abandoned => Fault::Payment(PaymentFault::Abandoned),
+            Unpaid::PayeeRefused(_) => Fault::Payment(PaymentFault::PayeeRefused),
+            Unpaid::TriesUsedUp => Fault::Payment(PaymentFault::TriesUsedUp),
+            Unpaid::Unfound(reason) => Fault::from(reason),
+            Unpaid::Payloads(reason) => Fault::from(reason),
+            Unpaid::NumbersUsedUp => Fault::Payment(PaymentFault::NumbersUsedUp),
         }
     }
 }

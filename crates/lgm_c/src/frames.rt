@@ -2,12 +2,12 @@
 //!
 //! Their length is counted first, which takes no memory. Only if the buffer has room for them are they put together.
 
-ghost use Rattle.std.specs.Prelude.{◌≡◌, ◌+◌, ◌^◌, ◌≤◌, ◌++◌, length, IfOk, IfSome, IsNone, OnOk};
+ghost use Rattle.std.specs.Prelude.{◌≡◌, ◌+◌, ◌^◌, ◌≤◌, ◌++◌, length, Err, IfOk, IfSome, IsNone, OnOk};
 ghost use Rattle.lgm_store.specs.Rows.{empty};
 ghost use Rattle.lgm_query.specs.Backlog.{backlog, news};
 ghost use Rattle.lgm_timeline.specs.Timeline.{newest};
 ghost use Rattle.lgm_c.specs.Status.{status_of};
-ghost use Rattle.lgm_c.specs.Writing.{framed, all_framed, buffer};
+ghost use Rattle.lgm_c.specs.Writing.{framed, all_framed, buffer, IsCramped};
 ghost use Rattle.lgm_c.specs.inner.Framing.{MayWrite};
 
 use crate::fault::Fault;
@@ -68,8 +68,9 @@ fn write_messages(
     needed: &mut usize,
 ) -> Result<(), Fault>
     requires { counted ≡ messages }
-    ensures { MayWrite (all_framed messages.entry) (status_of result)
+    ensures written { MayWrite (all_framed messages.entry) (status_of result)
         (buffer room.old needed.old) (buffer room.new needed.new) }
+    ensures cramped { IsCramped (all_framed messages.entry) room.old → result ≡ Err Fault.Room }
 {
     // No answer has 2^64 bytes.
     let Some(bytes) = framed_length(counted) else {
@@ -99,7 +100,7 @@ pub(crate) fn write_replies(
     write_messages(alloc, counted, messages, room, needed)
 }
 
-/// Writes what passes a filter, as [`write_replies`] does.
+/// Writes what passes a filter, as [`write_replies`] does: what is news where there was nothing before.
 pub(crate) fn write_backlog(
     alloc: Global,
     map: &Map,
@@ -107,26 +108,15 @@ pub(crate) fn write_backlog(
     room: &mut [u8],
     needed: &mut usize,
 ) -> Result<(), Fault>
-    ensures { MayWrite (all_framed (backlog map.now filter.now)) (status_of result)
+    ensures written { MayWrite (all_framed (backlog map.now filter.now)) (status_of result)
         (buffer room.old needed.old) (buffer room.new needed.new) }
+    ensures first { MayWrite (all_framed (news empty map.now filter.now)) (status_of result)
+        (buffer room.old needed.old) (buffer room.new needed.new) }
+    ensures cramped { IsCramped (all_framed (backlog map.now filter.now)) room.old → result ≡ Err Fault.Room }
 {
     let counted = Messages::of_backlog(Backlog::of(map, filter));
     let messages = Messages::of_backlog(Backlog::of(map, filter));
     write_messages(alloc, counted, messages, room, needed)
-}
-
-/// Writes what is news where there was nothing before: all that passes a filter.
-pub(crate) fn write_first_news(
-    alloc: Global,
-    map: &Map,
-    filter: &Filter,
-    room: &mut [u8],
-    needed: &mut usize,
-) -> Result<(), Fault>
-    ensures { MayWrite (all_framed (news empty map.now filter.now)) (status_of result)
-        (buffer room.old needed.old) (buffer room.new needed.new) }
-{
-    write_backlog(alloc, map, filter, room, needed)
 }
 
 /// Writes the news between two maps, as [`write_replies`] does.

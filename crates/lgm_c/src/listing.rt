@@ -5,7 +5,8 @@ ghost use Rattle.lgm_c.specs.Listing.{above, next_channel_found, next_node_found
 ghost use Rattle.lgm_c.specs.Status.{if_open, status_of, Finds};
 
 use crate::fault::{Fault, status};
-use crate::lgm_map::{LgmMap, with_state};
+use crate::handle::{Handle, with_held};
+use crate::map_handle::LgmMap;
 use lgm_gossip::{Point, Scid};
 use lgm_store::Map;
 use std::alloc::Global;
@@ -35,11 +36,11 @@ pub extern "C" fn lgm_next_channel(
     is_first: bool,
     scid: &mut u64,
 ) -> u32
-    ensures same { map.new.handle.value ≡ map.old.handle.value }
-    ensures next { Finds (if_open map.old.handle.value
+    ensures same { map.new.value ≡ map.old.value }
+    ensures next { Finds (if_open map.old.value
         (λ state. next_channel_found (above is_first scid.old) state.rows)) result scid.old scid.new }
 {
-    with_state!(
+    with_held!(
         alloc,
         map,
         |state| status(&write_next_channel(state.map(), is_first, scid))
@@ -68,11 +69,11 @@ pub extern "C" fn lgm_next_node(
     is_first: bool,
     point: &mut [u8; 33],
 ) -> u32
-    ensures same { map.new.handle.value ≡ map.old.handle.value }
-    ensures next { Finds (if_open map.old.handle.value
+    ensures same { map.new.value ≡ map.old.value }
+    ensures next { Finds (if_open map.old.value
         (λ state. next_node_found (above is_first (record { 0 = point.old })) state.rows)) result point.old point.new }
 {
-    with_state!(
+    with_held!(
         alloc,
         map,
         |state| status(&write_next_node(state.map(), is_first, point))
@@ -100,11 +101,11 @@ pub extern "C" fn lgm_next_banned(
     is_first: bool,
     point: &mut [u8; 33],
 ) -> u32
-    ensures same { map.new.handle.value ≡ map.old.handle.value }
-    ensures next { Finds (if_open map.old.handle.value
+    ensures same { map.new.value ≡ map.old.value }
+    ensures next { Finds (if_open map.old.value
         (λ state. next_banned_found (above is_first (record { 0 = point.old })) state.rows)) result point.old point.new }
 {
-    with_state!(
+    with_held!(
         alloc,
         map,
         |state| status(&write_next_banned(state.map(), is_first, point))

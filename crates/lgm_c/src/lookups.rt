@@ -8,7 +8,8 @@ ghost use Rattle.lgm_c.specs.Status.{if_open, status_of, Finds};
 ghost use Rattle.lgm_c.specs.Writing.{buffer};
 
 use crate::fault::{Fault, status};
-use crate::lgm_map::{LgmMap, with_state};
+use crate::handle::{Handle, with_held};
+use crate::map_handle::LgmMap;
 use crate::output::write_bytes;
 use lgm_check::{NodeRow, Refusal, UpdateRow};
 use lgm_gossip::{Point, Scid};
@@ -70,10 +71,10 @@ pub struct LgmNode {
 /// The number of channels of a handle's map: 0 of a closed one.
 #[unsafe(no_mangle)]
 pub extern "C" fn lgm_count(alloc: Global, map: &mut LgmMap) -> usize
-    ensures same { map.new.handle.value ≡ map.old.handle.value }
-    ensures count { result ≡ count_of (option_map (λ state. state.rows) map.old.handle.value) }
+    ensures same { map.new.value ≡ map.old.value }
+    ensures count { result ≡ count_of (option_map (λ state. state.rows) map.old.value) }
 {
-    with_state!(alloc, map, 0, |state| state.map().count())
+    with_held!(alloc, map, 0, |state| state.map().count())
 }
 
 fn c_direction(update: Option<UpdateRow<'_>>) -> LgmDirection
@@ -139,11 +140,11 @@ pub extern "C" fn lgm_channel(
     scid: u64,
     channel: &mut LgmChannel,
 ) -> u32
-    ensures same { map.new.handle.value ≡ map.old.handle.value }
-    ensures channel { Finds (if_open map.old.handle.value (λ state. channel_found scid state.rows)) result
+    ensures same { map.new.value ≡ map.old.value }
+    ensures channel { Finds (if_open map.old.value (λ state. channel_found scid state.rows)) result
         channel.old channel.new }
 {
-    with_state!(
+    with_held!(
         alloc,
         map,
         |state| status(&write_channel(state.map(), Scid::from_u64(scid), channel))
@@ -188,11 +189,11 @@ pub extern "C" fn lgm_node(
     addresses: &mut [u8],
     needed: &mut usize,
 ) -> u32
-    ensures same { map.new.handle.value ≡ map.old.handle.value }
-    ensures node { WritesNode (if_open map.old.handle.value (λ state. node_found point.now state.rows)) result
+    ensures same { map.new.value ≡ map.old.value }
+    ensures node { WritesNode (if_open map.old.value (λ state. node_found point.now state.rows)) result
         node.old node.new (buffer addresses.old needed.old) (buffer addresses.new needed.new) }
 {
-    with_state!(
+    with_held!(
         alloc,
         map,
         |state| status(&write_node(state.map(), &Point(*point), node, addresses, needed))

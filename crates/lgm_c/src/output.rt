@@ -1,6 +1,7 @@
 //! Writing answers to the caller's buffers.
 
-ghost use Rattle.std.specs.Prelude.{◌≡◌, ◌≤◌, length};
+ghost use Rattle.std.specs.Prelude.{◌≡◌, ◌≤◌, length, map};
+ghost use Rattle.std.specs.Fn.{FnReturnsAt};
 ghost use Rattle.lgm_c.specs.Status.{status_of};
 ghost use Rattle.lgm_c.specs.Writing.{in_front, IsWritten, buffer};
 
@@ -13,6 +14,18 @@ pub(crate) fn copy_in_front<T: Copy>(items: &[T], room: &mut [T])
 {
     let n = items.len();
     room[..n].copy_from_slice(items);
+}
+
+/// Writes what each item gives to the front of a buffer that has room for all.
+pub(crate) fn map_in_front<T, U: Copy, F: Fn(&T) -> U>(items: &[T], room: &mut [U], give: F)
+    requires room { length items.now ≤ length room.old }
+    requires callable { F.IsAlwaysCallable give }
+    ensures { (f : T → U) → ((x : T) (y : U) → FnReturnsAt F.Fn give x y → y ≡ f x)
+        → room.new ≡ in_front (map f items.now) room.old }
+{
+    for place in 0..items.len() {
+        room[place] = give(&items[place]);
+    }
 }
 
 /// Writes bytes to the front of the buffer if it has room for them, and their length in any case.

@@ -1,9 +1,9 @@
 //! Queries and filters of peers, and the messages that answer them.
 
-ghost use Rattle.std.specs.Prelude.{◌≡◌};
+ghost use Rattle.std.specs.Prelude.{◌≡◌, IfSome};
 ghost use Rattle.lgm_query.specs.Backlog.{news};
 ghost use Rattle.lgm_query.specs.Requests.{replies_to};
-ghost use Rattle.lgm_c.specs.Asking.{query_answer, backlog_answer, news_answer};
+ghost use Rattle.lgm_c.specs.Asking.{query_answer, backlog_answer, news_answer, TellsRoom};
 ghost use Rattle.lgm_c.specs.Opening.{MovesMark};
 ghost use Rattle.lgm_c.specs.Published.{both_open};
 ghost use Rattle.lgm_c.specs.Status.{status_of};
@@ -13,7 +13,8 @@ ghost use Rattle.lgm_c.specs.inner.Framing.{MayWrite};
 use crate::chain_map::ChainMap;
 use crate::fault::{Fault, status};
 use crate::frames::{write_backlog, write_replies};
-use crate::lgm_map::{LgmMap, with_state};
+use crate::handle::{Handle, with_held};
+use crate::map_handle::LgmMap;
 use lgm_gossip::ChainHash;
 use lgm_query::{Filter, Query, news, read_filter, read_query};
 use lgm_store::Map;
@@ -62,8 +63,9 @@ fn answer_filter(
     room: &mut [u8],
     needed: &mut usize,
 ) -> u32
-    ensures { WritesAnswer bytes.now (backlog_answer bytes.now chain.now map.now) result
+    ensures backlog { WritesAnswer bytes.now (backlog_answer bytes.now chain.now map.now) result
         (buffer room.old needed.old) (buffer room.new needed.new) }
+    ensures cramped { TellsRoom bytes.now chain.now map.now room.old result }
 {
     match read_filter(alloc, chain, bytes) {
         Ok(filter) => status(&write_backlog(alloc, map, &filter, room, needed)),
@@ -98,12 +100,12 @@ pub extern "C" fn lgm_query(
     replies: &mut [u8],
     needed: &mut usize,
 ) -> u32
-    ensures same { map.new.handle.value ≡ map.old.handle.value }
-    ensures replies { Answers query.now map.old.handle.value
+    ensures same { map.new.value ≡ map.old.value }
+    ensures replies { Answers query.now map.old.value
         (λ state. query_answer query.now state.chain state.rows) result
         (buffer replies.old needed.old) (buffer replies.new needed.new) }
 {
-    with_state!(
+    with_held!(
         alloc,
         map,
         |state| answer_query(alloc, state.chain(), state.map(), query, replies, needed)
@@ -119,12 +121,13 @@ pub extern "C" fn lgm_filter(
     messages: &mut [u8],
     needed: &mut usize,
 ) -> u32
-    ensures same { map.new.handle.value ≡ map.old.handle.value }
-    ensures backlog { Answers filter.now map.old.handle.value
+    ensures same { map.new.value ≡ map.old.value }
+    ensures backlog { Answers filter.now map.old.value
         (λ state. backlog_answer filter.now state.chain state.rows) result
         (buffer messages.old needed.old) (buffer messages.new needed.new) }
+    ensures cramped { IfSome map.old.value (λ state. TellsRoom filter.now state.chain state.rows messages.old result) }
 {
-    with_state!(
+    with_held!(
         alloc,
         map,
         |state| answer_filter(alloc, state.chain(), state.map(), filter, messages, needed)
@@ -141,12 +144,12 @@ pub extern "C" fn lgm_news(
     messages: &mut [u8],
     needed: &mut usize,
 ) -> u32
-    ensures same { map.new.handle.value ≡ map.old.handle.value }
-    ensures news { Answers filter.now map.old.handle.value
+    ensures same { map.new.value ≡ map.old.value }
+    ensures news { Answers filter.now map.old.value
         (λ state. news_answer filter.now state.chain state.marked state.rows) result
         (buffer messages.old needed.old) (buffer messages.new needed.new) }
 {
-    with_state!(
+    with_held!(
         alloc,
         map,
         |state| answer_news(alloc, &mut state, filter, messages, needed)
@@ -203,12 +206,12 @@ fn answer_behind(
     room: &mut [u8],
     needed: &mut usize,
 ) -> u32
-    ensures same { after.new.handle.value ≡ after.old.handle.value }
-    ensures news { Answers bytes.now after.old.handle.value
+    ensures same { after.new.value ≡ after.old.value }
+    ensures news { Answers bytes.now after.old.value
         (λ state. news_answer bytes.now state.chain before.now.rows state.rows) result
         (buffer room.old needed.old) (buffer room.new needed.new) }
 {
-    with_state!(
+    with_held!(
         alloc,
         after,
         |state| answer_between(alloc, before, &state, bytes, room, needed)
@@ -226,13 +229,13 @@ pub extern "C" fn lgm_news_between(
     messages: &mut [u8],
     needed: &mut usize,
 ) -> u32
-    ensures same { after.new.handle.value ≡ after.old.handle.value }
-    ensures same_before { before.new.handle.value ≡ before.old.handle.value }
-    ensures news { Answers filter.now (both_open before.old.handle.value after.old.handle.value)
+    ensures same { after.new.value ≡ after.old.value }
+    ensures same_before { before.new.value ≡ before.old.value }
+    ensures news { Answers filter.now (both_open before.old.value after.old.value)
         (λ both. news_answer filter.now both.1.chain both.0.rows both.1.rows) result
         (buffer messages.old needed.old) (buffer messages.new needed.new) }
 {
-    with_state!(
+    with_held!(
         alloc,
         before,
         |state| answer_behind(alloc, &state, after, filter, messages, needed)
@@ -242,7 +245,7 @@ pub extern "C" fn lgm_news_between(
 /// Moves the mark to the map as it is.
 #[unsafe(no_mangle)]
 pub extern "C" fn lgm_mark(alloc: Global, map: &mut LgmMap) -> u32
-    ensures { MovesMark result map.old.handle.value map.new.handle.value }
+    ensures { MovesMark result map.old.value map.new.value }
 {
-    with_state!(alloc, map, |state| status(&state.renew_mark()))
+    with_held!(alloc, map, |state| status(&state.renew_mark()))
 }

@@ -1,24 +1,27 @@
 //! Routes of payments.
 
-ghost use Rattle.std.specs.Prelude.{◌≡◌, ℕ, [], List, Option, IfOk};
+ghost use Rattle.std.specs.Prelude.{◌≡◌, ◌≤◌, ◌<◌, ◌^◌, ℕ, [], List, Option, length};
+ghost use Rattle.lgm_payload.specs.Building.{onion_len};
 ghost use Rattle.lgm_store.specs.Rows.{Rows};
 ghost use Rattle.lgm_c.specs.Routing.{request_of, route_asked, c_hop, c_hops, all_payloads};
 ghost use Rattle.lgm_c.specs.Routing.{AreWritten, WritesHops, WritesRoute, buffers, number_written, status_as};
 ghost use Rattle.lgm_c.specs.Attempts.{AttemptParts, attempt_given, entries_of, Explains, WritesAttempt, WritesTried};
 ghost use Rattle.lgm_c.specs.inner.Searching.{IsRouted};
 ghost use Rattle.lgm_c.specs.Status.{if_open};
+ghost use Rattle.lgm_c.specs.Writing.{in_front};
 
 use crate::attempt::{Attempt, LgmAttempt};
 use crate::chain_map::ChainMap;
-use crate::estimates::LgmEstimates;
+use crate::estimates_handle::LgmEstimates;
 use crate::fault::Fault;
-use crate::lgm_map::{LgmMap, with_state};
+use crate::handle::{Handle, with_held};
+use crate::map_handle::LgmMap;
 use crate::output::copy_in_front;
 use lgm_gossip::{Bytes, Point};
 use lgm_graph::{Estimates, overlays_are_lawful};
 use lgm_payload::build;
 use lgm_route::{Found, Hop, Request, Route, nothing_preferred};
-use std::alloc::{AllocError, Global};
+use std::alloc::Global;
 
 /// What a call returns that wrote a route which may not be the best one.
 const SO_FAR: u32 = 27;
@@ -79,7 +82,8 @@ pub(crate) fn request_of(payment: &LgmPayment) -> Request
     }
 }
 
-fn c_hop(hop: &Hop, payload: &[u8]) -> LgmHop
+/// A hop with a payload.
+pub(crate) fn c_hop(hop: &Hop, payload: &[u8]) -> LgmHop
     ensures { result ≡ c_hop hop.now payload.now }
 {
     LgmHop {
@@ -92,54 +96,70 @@ fn c_hop(hop: &Hop, payload: &[u8]) -> LgmHop
     }
 }
 
-/// Hops as C structs, each with the length of its payload.
-pub(crate) fn c_hops(
-    alloc: Global,
-    hops: &[Hop],
-    payloads: &[Bytes],
-) -> Result<Vec<LgmHop>, AllocError>
-    ensures { IfOk result (λ made. made.items ≡ c_hops hops.now payloads.now) }
+/// Writes hops, each with the length of its payload, to the front of a buffer that has room for them, and returns how many
+/// they are.
+pub(crate) fn fill_hops(hops: &[Hop], payloads: &[Bytes], room: &mut [LgmHop]) -> usize
+    requires { length (c_hops hops.now payloads.now) ≤ length room.old }
+    ensures count { result ≡ length (c_hops hops.now payloads.now) }
+    ensures filled { room.new ≡ in_front (c_hops hops.now payloads.now) room.old }
 {
     let count = hops.len().min(payloads.len());
-    let mut made = Vec::with_capacity(alloc, count)?;
     for place in 0..count {
-        made.push(c_hop(&hops[place], payloads[place].as_slice()))?;
+        room[place] = c_hop(&hops[place], payloads[place].as_slice());
     }
-    Ok(made)
+    count
 }
 
-/// Payloads, one after the other.
-pub(crate) fn joined(alloc: Global, payloads: &[Bytes]) -> Result<Vec<u8>, AllocError>
-    ensures { IfOk result (λ joined. joined.items ≡ all_payloads payloads.now) }
+/// Writes payloads, one after the other, to the front of a buffer that has room for them, and returns how many bytes they
+/// have.
+pub(crate) fn fill_payloads(payloads: &[Bytes], room: &mut [u8]) -> usize
+    requires { length (all_payloads payloads.now) ≤ length room.old }
+    ensures count { result ≡ length (all_payloads payloads.now) }
+    ensures filled { room.new ≡ in_front (all_payloads payloads.now) room.old }
 {
-    let mut joined = Vec::new(alloc);
+    let mut filled = 0;
     for payload in payloads {
-        joined.extend_from_slice(payload.as_slice())?;
+        copy_in_front(payload.as_slice(), &mut room[filled..]);
+        filled += payload.len();
     }
-    Ok(joined)
+    filled
 }
 
-/// Writes hops and payloads if the buffers have room for both, and their lengths in any case.
+/// How many bytes payloads have together.
+fn payloads_len(payloads: &[Bytes]) -> usize
+    requires { length (all_payloads payloads.now) < 2 ^ 64 }
+    ensures { result ≡ length (all_payloads payloads.now) }
+{
+    let mut count = 0;
+    for payload in payloads {
+        count += payload.len();
+    }
+    count
+}
+
+/// Writes hops and their payloads if the buffers have room for both, and their lengths in any case.
 pub(crate) fn write_hops(
-    found: &[LgmHop],
-    joined: &[u8],
+    route: &[Hop],
+    built: &[Bytes],
     hops: &mut [LgmHop],
     payloads: &mut [u8],
     lengths: &mut LgmLengths,
 ) -> Result<(), Fault>
-    ensures { (number : ℕ) → AreWritten number found.now joined.now (status_as number result)
+    requires { onion_len built.now ≤ 1300 }
+    ensures { (number : ℕ) → AreWritten number (c_hops route.now built.now) (all_payloads built.now) (status_as number result)
         (buffers hops.old payloads.old lengths.old)
         (buffers hops.new payloads.new lengths.new) }
 {
-    *lengths = LgmLengths {
-        hops: found.len(),
-        payloads: joined.len(),
+    let needed = LgmLengths {
+        hops: route.len().min(built.len()),
+        payloads: payloads_len(built),
     };
-    if hops.len() < found.len() || payloads.len() < joined.len() {
+    *lengths = needed;
+    if hops.len() < needed.hops || payloads.len() < needed.payloads {
         return Err(Fault::Room);
     }
-    copy_in_front(found, hops);
-    copy_in_front(joined, payloads);
+    fill_hops(route, built, hops);
+    fill_payloads(built, payloads);
     Ok(())
 }
 
@@ -157,9 +177,7 @@ fn write_route(
         (buffers hops.new payloads.new lengths.new) }
 {
     let built = build(alloc, route, secret)?;
-    let found = c_hops(alloc, route.as_slice(), built.as_slice())?;
-    let joined = joined(alloc, built.as_slice())?;
-    write_hops(&found, &joined, hops, payloads, lengths)
+    write_hops(route.as_slice(), built.as_slice(), hops, payloads, lengths)
 }
 
 /// What a call returns that wrote a route, or failed to.
@@ -255,13 +273,13 @@ pub extern "C" fn lgm_route(
     payloads: &mut [u8],
     lengths: &mut LgmLengths,
 ) -> u32
-    ensures same { map.new.handle.value ≡ map.old.handle.value }
-    ensures route { WritesRoute (if_open map.old.handle.value (λ state. route_asked payment.now state.known state.rows))
+    ensures same { map.new.value ≡ map.old.value }
+    ensures route { WritesRoute (if_open map.old.value (λ state. route_asked payment.now state.known state.rows))
         payment.now.secret result
         (buffers hops.old payloads.old lengths.old)
         (buffers hops.new payloads.new lengths.new) }
 {
-    with_state!(
+    with_held!(
         alloc,
         map,
         |state| write_plain(alloc, &mut state, payment, hops, payloads, lengths)
@@ -278,12 +296,12 @@ fn write_attempt(
     payloads: &mut [u8],
     lengths: &mut LgmLengths,
 ) -> u32
-    ensures same { map.new.handle.value ≡ map.old.handle.value }
-    ensures route { WritesAttempt attempt.now map.old.handle.value secret.now result
+    ensures same { map.new.value ≡ map.old.value }
+    ensures route { WritesAttempt attempt.now map.old.value secret.now result
         (buffers hops.old payloads.old lengths.old)
         (buffers hops.new payloads.new lengths.new) }
 {
-    with_state!(
+    with_held!(
         alloc,
         map,
         |state| write_tried(alloc, &mut state, attempt, secret, hops, payloads, lengths)
@@ -303,27 +321,37 @@ pub extern "C" fn lgm_attempt_route(
     payloads: &mut [u8],
     lengths: &mut LgmLengths,
 ) -> u32
-    ensures same { map.new.handle.value ≡ map.old.handle.value }
-    ensures kept { estimates.new.handle.value ≡ estimates.old.handle.value }
-    ensures route { WritesAttempt (attempt_given attempt.now (entries_of estimates.old.handle.value))
-        map.old.handle.value attempt.now.payment.secret result
+    ensures same { map.new.value ≡ map.old.value }
+    ensures kept { estimates.new.value ≡ estimates.old.value }
+    ensures route { WritesAttempt (attempt_given attempt.now (entries_of estimates.old.value))
+        map.old.value attempt.now.payment.secret result
         (buffers hops.old payloads.old lengths.old)
         (buffers hops.new payloads.new lengths.new) }
 {
     let secret = &attempt.payment.secret;
-    match estimates.take(alloc) {
-        Some(known) => {
-            let given = Attempt::given(attempt, &known);
-            let answer = write_attempt(alloc, map, &given, secret, hops, payloads, lengths);
-            *estimates = LgmEstimates::open(known);
-            answer
-        }
-        None => {
-            let nothing = Estimates::new(alloc);
-            let given = Attempt::given(attempt, &nothing);
-            write_attempt(alloc, map, &given, secret, hops, payloads, lengths)
-        }
-    }
+    let nothing = Estimates::new(alloc);
+    with_held!(
+        alloc,
+        estimates,
+        write_attempt(
+            alloc,
+            map,
+            &Attempt::given(attempt, &nothing),
+            secret,
+            hops,
+            payloads,
+            lengths
+        ),
+        |known| write_attempt(
+            alloc,
+            map,
+            &Attempt::given(attempt, &known),
+            secret,
+            hops,
+            payloads,
+            lengths
+        )
+    )
 }
 
 /// Why there is no route for a payment over what its payer knows beside the map, within its limits: the first reason that
@@ -334,10 +362,10 @@ pub extern "C" fn lgm_no_route_reason(
     map: &mut LgmMap,
     attempt: &LgmAttempt<'_>,
 ) -> u32
-    ensures same { map.new.handle.value ≡ map.old.handle.value }
-    ensures reason { Explains (attempt_given attempt.now []) map.old.handle.value result }
+    ensures same { map.new.value ≡ map.old.value }
+    ensures reason { Explains (attempt_given attempt.now []) map.old.value result }
 {
     let nothing = Estimates::new(alloc);
     let given = Attempt::given(attempt, &nothing);
-    with_state!(alloc, map, |state| state.no_route_reason(alloc, &given))
+    with_held!(alloc, map, |state| state.no_route_reason(alloc, &given))
 }

@@ -7,7 +7,8 @@ ghost use Rattle.lgm_c.specs.Writing.{Writes, buffer};
 
 use crate::argument_fault::ArgumentFault;
 use crate::fault::{Fault, status};
-use crate::lgm_map::{LgmMap, with_state};
+use crate::handle::{Handle, with_held};
+use crate::map_handle::LgmMap;
 use crate::output::write_bytes;
 use lgm_check::Refusal;
 use lgm_gossip::{Point, Scid};
@@ -50,11 +51,11 @@ pub extern "C" fn lgm_channel_message(
     message: &mut [u8],
     needed: &mut usize,
 ) -> u32
-    ensures same { map.new.handle.value ≡ map.old.handle.value }
-    ensures message { Writes (if_open map.old.handle.value (λ state. channel_message_found scid which state.rows)) result
+    ensures same { map.new.value ≡ map.old.value }
+    ensures message { Writes (if_open map.old.value (λ state. channel_message_found scid which state.rows)) result
         (buffer message.old needed.old) (buffer message.new needed.new) }
 {
-    with_state!(
+    with_held!(
         alloc,
         map,
         |state| status(&write_channel_message(
@@ -92,11 +93,11 @@ pub extern "C" fn lgm_node_message(
     message: &mut [u8],
     needed: &mut usize,
 ) -> u32
-    ensures same { map.new.handle.value ≡ map.old.handle.value }
-    ensures message { Writes (if_open map.old.handle.value (λ state. node_message_found point.now state.rows)) result
+    ensures same { map.new.value ≡ map.old.value }
+    ensures message { Writes (if_open map.old.value (λ state. node_message_found point.now state.rows)) result
         (buffer message.old needed.old) (buffer message.new needed.new) }
 {
-    with_state!(
+    with_held!(
         alloc,
         map,
         |state| status(&write_node_message(state.map(), &Point(*point), message, needed))

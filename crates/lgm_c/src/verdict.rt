@@ -1,14 +1,14 @@
-//! Messages, closes and bans, offered to a map that changes.
+//! Messages and bans, offered to a map that changes.
 
 ghost use Rattle.std.specs.Prelude.{◌≡◌, Ok, IfOk, IfErr, OnOk, OnErr};
 ghost use Rattle.lgm_gossip.specs.Memory.{TakesMemory};
-ghost use Rattle.lgm_store.specs.Admission.{admitted_close, verdict_of};
+ghost use Rattle.lgm_store.specs.Admission.{verdict_of};
 ghost use Rattle.lgm_timeline.specs.Timeline.{newest, Advances, RefusesOrRunsOut};
 ghost use Rattle.lgm_c.specs.inner.Following.{Fails, Refuses, Follows};
 ghost use Rattle.lgm_c.specs.Offering.{offered_to, admitted_ban};
 
 use lgm_check::{BanRow, Evidence, Refusal, precheck};
-use lgm_gossip::{ChainHash, Point, Scid};
+use lgm_gossip::{ChainHash, Point};
 use lgm_store::{CheckedMessage, Hint, Map, Op, Shared};
 use lgm_timeline::Timeline;
 use std::alloc::Global;
@@ -107,15 +107,6 @@ pub(crate) fn offer(
         )),
         result => result,
     }
-}
-
-/// Closes a channel. A refusal or out of memory changes nothing.
-pub(crate) fn close(alloc: Global, timeline: &mut Timeline, scid: Scid) -> Result<(), Refusal>
-    ensures follows { Follows ⊥ (admitted_close timeline.old.network.rows scid) result
-        (newest timeline.old) (newest timeline.new) }
-    ensures marked { timeline.new.marked ≡ timeline.old.marked }
-{
-    timeline.offer_close(alloc, scid)
 }
 
 /// Bans a node. A refusal or out of memory changes nothing.

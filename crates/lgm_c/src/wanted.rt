@@ -6,7 +6,8 @@ ghost use Rattle.lgm_c.specs.Status.{status_of};
 ghost use Rattle.lgm_c.specs.Wanting.{signed_by, setter_in, right_verdicts, TellsOf, Wants, NoneMends};
 
 use crate::fault::{Fault, status};
-use crate::lgm_map::{LgmMap, with_state};
+use crate::handle::{Handle, with_held};
+use crate::map_handle::LgmMap;
 use crate::verdict::verdict;
 use lgm_check::{Evidence, Funding, Sig};
 use lgm_gossip::{ChainHash, ChannelUpdate, Layout, NodeAnnounce, Point, Scid, layout_of};
@@ -79,11 +80,11 @@ pub extern "C" fn lgm_wanted(
     message: &[u8],
     signer: &mut [u8; 33],
 ) -> u32
-    ensures same { map.new.handle.value ≡ map.old.handle.value }
-    ensures wanted { Wants message.now map.old.handle.value result signer.old signer.new }
-    ensures mended { NoneMends message.now signer.old map.old.handle.value }
+    ensures same { map.new.value ≡ map.old.value }
+    ensures wanted { Wants message.now map.old.value result signer.old signer.new }
+    ensures mended { NoneMends message.now signer.old map.old.value }
 {
-    with_state!(
+    with_held!(
         alloc,
         map,
         |state| status(&write_wanted(alloc, state.chain(), state.map(), message, signer))

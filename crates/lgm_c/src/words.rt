@@ -2,6 +2,7 @@
 
 ghost use Rattle.std.specs.Prelude.{◌≡◌};
 ghost use Rattle.lgm_c.specs.Arguments.{argument_word};
+ghost use Rattle.lgm_c.specs.PaymentFaults.{payment_word};
 ghost use Rattle.lgm_c.specs.Decoding.{decode_word};
 ghost use Rattle.lgm_c.specs.Words.{refusal_at, reason_at, no_route_at, word_of_call, word_at, padded};
 
@@ -85,7 +86,36 @@ fn argument_word(number: u32) -> &'static str
     }
 }
 
-/// The word of a number that stands for the first fault of a message, or for a wrong argument.
+/// The word of a number that stands for a fault of a payment, or for a wrong argument.
+fn payment_word(number: u32) -> &'static str
+    ensures { result.now ≡ payment_word number }
+{
+    match number {
+        71 => "too-dear",
+        72 => "channels-short",
+        73 => "payee-short",
+        74 => "tries-used-up",
+        75 => "payee-refused",
+        76 => "abandoned",
+        77 => "paths-short",
+        81 => "unknown-payment",
+        82 => "unknown-part",
+        83 => "not-under-way",
+        84 => "beyond-route",
+        85 => "foreign-code",
+        86 => "nothing-under-way",
+        87 => "already-paid",
+        88 => "under-way",
+        89 => "foreign-channel",
+        90 => "reckoned-ahead",
+        91 => "reckoned-before",
+        92 => "no-parts",
+        93 => "numbers-used-up",
+        _ => argument_word(number),
+    }
+}
+
+/// The word of a number that stands for the first fault of a message, for one of a payment, or for a wrong argument.
 fn decode_word(number: u32) -> &'static str
     ensures { result.now ≡ decode_word number }
 {
@@ -101,7 +131,7 @@ fn decode_word(number: u32) -> &'static str
         59 => "tlv-order",
         60 => "tlv-kind",
         61 => "flags",
-        _ => argument_word(number),
+        _ => payment_word(number),
     }
 }
 
@@ -113,9 +143,12 @@ fn word_of_call(number: u32) -> &'static str
         0 => "accepted",
         26 => "undecided",
         27 => "so-far",
+        28 => "whole",
         31 => "not-query",
         32 => "not-filter",
         33 => "not-announced",
+        34 => "not-saved",
+        35 => "not-reply",
         100 => "closed",
         101 => "open",
         102 => "no-memory",
@@ -154,10 +187,10 @@ pub extern "C" fn lgm_word(number: u32, word: &mut [u8; 24])
     copy_in_front(bytes, word);
 }
 
-/// The version of this interface, which is 4.
+/// The version of this interface, which is 5.
 #[unsafe(no_mangle)]
 pub extern "C" fn lgm_version() -> u32
-    ensures { result ≡ 4 }
+    ensures { result ≡ 5 }
 {
-    4
+    5
 }

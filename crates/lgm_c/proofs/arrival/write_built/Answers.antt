@@ -12,9 +12,9 @@ returns c =
     let payloads = c.in_ok-built.built in
     let old = buffers c.args.hops.now c.args.payloads.now c.args.lengths.now in
     let new = buffers c.write_hops.new.hops c.write_hops.new.payloads c.write_hops.new.lengths in
-    writes_built hops (built_for arrival hops) payloads c.deref.result.now c.deref-2.result.now c.write_hops.result old new
-    (ap (λ route. built_or_fault (built_for arrival route)) (sym c.in_ok-route.ensures) ∙ c.in_ok-built.ensures)
-    (c.deref.ensures.value ∙ c.in_ok-found.ensures ∙ ap (λ route. c_hops route c.as_slice-2.result.now) (c.as_slice.ensures.hops ∙ c.in_ok-route.ensures)
+    writes_built hops (built_for arrival hops) payloads (c_hops c.as_slice.result.now c.as_slice-2.result.now)
+    (all_payloads c.as_slice-2.result.now) c.write_hops.result old new
+    (ap (λ route. built_or_fault (built_for arrival route)) (sym c.in_ok-route.ensures) ∙ c.in_ok-built.ensures.exact)
+    (ap (λ route. c_hops route c.as_slice-2.result.now) (c.as_slice.ensures.hops ∙ c.in_ok-route.ensures)
     ∙ ap (c_hops hops) c.as_slice-2.ensures)
-    (c.deref-2.ensures.value ∙ c.in_ok-joined.ensures ∙ ap all_payloads c.as_slice-3.ensures)
-    (c.write_hops.ensures 0)
+    (ap all_payloads c.as_slice-2.ensures) (c.write_hops.ensures 0)

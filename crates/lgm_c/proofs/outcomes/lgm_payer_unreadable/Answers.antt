@@ -1,0 +1,10 @@
+use Rattle.std.proofs.Common.{◌≡◌, Some}
+use Rattle.lgm_payer.specs.declared.failure.Ending.TheVariants as endings
+use Rattle.lgm_c.specs.Paying.{Ends}
+use Rattle.lgm_c.proofs.Told.{told_over}
+use Rattle.lgm_c.proofs.outcomes.lgm_payer_unreadable.Goals as goal
+
+pub returns-in-Some : goal.returns-in-Some
+returns-in-Some c =
+    let before : c.args.payer.now.value ≡ Some c.deref_mut.result.now = cc (c.in-Some.ensures.taken, c.deref_mut.ensures.value) in
+    told_over (Ends c.args.payment c.args.part endings.Unreadable) _ _ _ _ _ _ c.status-answer.ensures before c.put.ensures c.lose.ensures
