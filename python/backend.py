@@ -18,13 +18,16 @@ from typing import Any, Dict, Optional
 
 HERE = Path(__file__).resolve().parent
 TOP = HERE.parent
-TAG = "py3-none-manylinux_2_34_x86_64"
+# The oldest systems that take the wheel: with glibc 2.17, also by the older name for that, or with musl. What the shared object
+# asks of the C library, six functions of the heap and of memory, has been there since then.
+SYSTEMS = ("manylinux2014", "manylinux_2_17", "musllinux_1_2")
 FIRST_TIME = 315_532_800  # of 1980: a zip file has no earlier one
-WHEEL = f"""Wheel-Version: 1.0
-Generator: lgm
-Root-Is-Purelib: false
-Tag: {TAG}
-"""
+
+
+def wheel_text(machine: str) -> str:
+    """What the wheel says of itself as a wheel, for a machine by the kernel's name for it."""
+    tags = "".join(f"Tag: py3-none-{system}_{machine}\n" for system in SYSTEMS)
+    return f"Wheel-Version: 1.0\nGenerator: lgm\nRoot-Is-Purelib: false\n{tags}"
 
 
 def metadata(version: str) -> str:
@@ -34,12 +37,12 @@ def metadata(version: str) -> str:
             f"Requires-Python: {project['requires-python']}\n")
 
 
-def contents(version: str, shared_object: Path) -> Dict[str, bytes]:
+def contents(version: str, shared_object: Path, machine: str) -> Dict[str, bytes]:
     """The files of the wheel by their names, but for the list of them."""
     folder = HERE / "lgm"
     files = {f"lgm/{file.name}": file.read_bytes() for file in (*folder.glob("*.py"), folder / "py.typed", shared_object)}
     files[f"lgm-{version}.dist-info/METADATA"] = metadata(version).encode()
-    files[f"lgm-{version}.dist-info/WHEEL"] = WHEEL.encode()
+    files[f"lgm-{version}.dist-info/WHEEL"] = wheel_text(machine).encode()
     return files
 
 
@@ -50,12 +53,12 @@ def record(files: Dict[str, bytes], own: str) -> bytes:
     return "".join([*lines, f"{own},,\n"]).encode()
 
 
-def write_wheel(folder: Path, version: str, shared_object: Path, seconds: int) -> str:
-    """Writes the wheel to a folder, with a time since 1970 for its files. Its name."""
-    files = dict(sorted(contents(version, shared_object).items()))
+def write_wheel(folder: Path, version: str, shared_object: Path, seconds: int, machine: str = "x86_64") -> str:
+    """Writes the wheel for a machine to a folder, with a time since 1970 for its files. Its name."""
+    files = dict(sorted(contents(version, shared_object, machine).items()))
     own = f"lgm-{version}.dist-info/RECORD"
     files[own] = record(files, own)
-    name = f"lgm-{version}-{TAG}.whl"
+    name = f"lgm-{version}-py3-none-{'.'.join(f'{system}_{machine}' for system in SYSTEMS)}.whl"
     with zipfile.ZipFile(folder / name, "w") as archive:
         for file, content in files.items():
             info = zipfile.ZipInfo(file, time.gmtime(max(seconds, FIRST_TIME))[:6])

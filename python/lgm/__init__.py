@@ -32,7 +32,12 @@ changes:
     board.publish()              # by the thread that changes the map
     board.latest().route(..)     # by each thread that reads: it waits for nobody, and nobody for it
 
-`lgm.payer` pays an invoice: it says what to send next, and is told what became of it.
+What came from a peer is verified by what `reads` tells of it, before it is offered, and once a day what is old is pruned:
+
+    message = reads(received)    # each of message.signatures is by the key in its place of message.keys
+    network.prune(before=int(time.time()) - 14 * 86_400)
+
+`lgm.payer` pays invoices: it says what to send next, and is told what became of it.
 
 The library is loaded for the first `Map`. It is the file that LGM_LIBRARY names; else the one in this package; else, in a
 clone, the one in `examples/out`, where `examples/build-c` puts it; else the system's. `lgm.dump` writes a map to a file.
@@ -41,22 +46,27 @@ clone, the one in `examples/out`, where `examples/build-c` puts it; else the sys
 from .arrival import payloads
 from .board import Board
 from .estimates import Estimates
-from .faults import Fault, NoRoute
+from .faults import ChannelsShort, Fault, NoRoute, PathsShort, PayeeRefused, PayeeShort, TooDear
 from .map import ANNOUNCEMENT, UPDATE_1, UPDATE_2, Map
 from .numbered import *
 from .packing import ALL_FOUR, NOBODY, NOT_ALL_FOUR, NOT_ASKED, SPENT, WRONG
-from .records import Channel, Direction, Edge, Estimate, Hop, Limit, Node, Preferences, Route, short_channel_id
+from .reading import reads
+from .records import (
+    Channel, Direction, Edge, Estimate, Hop, Lacking, Limit, Node, Preferences, Pruned, Route, Signed, short_channel_id)
 
 __all__ = [
-    "ALL_FOUR", "ANNOUNCEMENT", "Board", "Channel", "Direction", "Edge", "Estimate", "Estimates", "Fault", "Hop", "Limit",
-    "Map", "NOBODY", "NOT_ALL_FOUR", "NOT_ASKED", "NoRoute", "Node", "Preferences", "Route", "SPENT", "UPDATE_1", "UPDATE_2",
-    "WRONG", "payloads", "short_channel_id",
+    "ALL_FOUR", "ANNOUNCEMENT", "Board", "Channel", "ChannelsShort", "Direction", "Edge", "Estimate", "Estimates", "Fault",
+    "Hop", "Lacking", "Limit", "Map", "NOBODY", "NOT_ALL_FOUR", "NOT_ASKED", "NoRoute", "Node", "PathsShort", "PayeeRefused",
+    "PayeeShort", "Preferences", "Pruned", "Route", "SPENT", "Signed", "TooDear", "UPDATE_1", "UPDATE_2", "WRONG", "payloads", "reads",
+    "short_channel_id",
     # Made of include/lgm.h by python3 surface/make.py:
-    "AmountTooLarge", "AmountZero", "Argument", "Banned", "Chain", "Closed", "Conflict", "ExpiryTooLarge", "Full",
-    "Funding", "Ignored", "Known", "Malformed", "NoMaximum", "NoMemory", "NodeOrder", "NotAnnounced", "NotFilter",
-    "NotGossip", "NotNewer", "NotPublished", "NotQuery", "Nothing", "Open", "PayloadsTooLong", "Point", "Private",
-    "Published", "Reason", "Refused", "Room", "SelfPayment", "Signature", "TooManyEdges", "TooManyLimits", "Undecided",
-    "UnknownChannel", "UnknownEven", "UnknownNode", "Unrouted", "WrongFunding", "WrongHops", "WrongMessage",
-    "WrongRecordOrder", "WrongRecordType", "WrongSig",
+    "Abandoned", "AlreadyPaid", "AmountTooLarge", "AmountZero", "Argument", "Banned", "BeyondRoute", "Chain", "Closed",
+    "Conflict", "ExpiryTooLarge", "ForeignChannel", "ForeignCode", "Full", "Funding", "Ignored", "Known", "Malformed",
+    "NoMaximum", "NoMemory", "NoParts", "NodeOrder", "NotAnnounced", "NotFilter", "NotGossip", "NotNewer", "NotPublished",
+    "NotQuery", "NotReply", "NotSaved", "NotUnderWay", "Nothing", "NothingUnderWay", "NumbersUsedUp", "Open",
+    "PayloadsTooLong", "Point", "Private", "Published", "Reason", "ReckonedAhead", "ReckonedBefore", "Refused", "Room",
+    "SelfPayment", "Signature", "TooManyEdges", "TooManyLimits", "TriesUsedUp", "Undecided", "UnderWay", "UnknownChannel",
+    "UnknownEven", "UnknownNode", "UnknownPart", "UnknownPayment", "Unpaid", "Unrouted", "Untold", "WrongFunding",
+    "WrongHops", "WrongMessage", "WrongRecordOrder", "WrongRecordType", "WrongSig",
     # The end of what is made.
 ]

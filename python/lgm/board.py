@@ -6,6 +6,7 @@ import threading
 from types import TracebackType
 from typing import Optional, Tuple, Type
 
+from .library import instance
 from .map import Map
 from .numbered import Closed
 
@@ -23,7 +24,7 @@ class Board:
 
     def __init__(self, network: Map) -> None:
         """Publishes the map as it is now."""
-        self._network = network
+        self._network = instance("network", network, Map)
         self._lock = threading.Lock()
         self._own = threading.local()
         self._count = 0  # of publications: a thread takes a later one than it has

@@ -7,18 +7,18 @@
 
 tells what a file has. It needs no library.
 
-A file begins with the eight bytes `lgm map\\n`, and its version in four. Records follow: a byte that says which kind, the
-length of a message in two bytes, what goes with the message, the message as it was received, and a checksum in four.
-Numbers are big-endian.
+A file has the bytes of `Map.save`: the eight bytes `lgm map\\n`, the version in four, the chain's hash, the length of the
+records in eight bytes, the records, and a checksum in sixteen. Numbers are big-endian. A record is a byte that says which kind,
+what goes with the message, the length of the message in two bytes, and the message as it was received.
 
     kind  what                                              goes with it
-    1     a channel's announcement                          its capacity in satoshi, 8 bytes
-    2     an update, or a node's announcement               the key that signed it, 33 bytes
-    3     a banned node, without a message                  its point, 33 bytes
-    0     the end, without a message                        the number of records before it, 8 bytes
+    1     a banned node, without a message and its length   its point, 33 bytes
+    2     a channel's announcement                          its capacity in satoshi, 8 bytes
+    3     an update                                         nothing
+    4     a node's announcement                             nothing
 
-A checksum is the CRC-32 of all bytes of the file before it, but for the checksums between. So it tells what was changed
-by mistake, and where, and what was cut off; it is no signature: keep the file where nobody else writes.
+The checksum is two numbers of eight bytes, modulo 2^64: the sum of all bytes before it, and the sum of these sums after each
+byte. So it tells what was changed by mistake, or cut off; it is no signature: keep the file where nobody else writes.
 """
 
 from __future__ import annotations
@@ -26,71 +26,35 @@ from __future__ import annotations
 import os
 import struct
 import sys
-import zlib
 from collections import Counter
+from itertools import accumulate
 from pathlib import Path
-from typing import Iterable, Iterator, List, Optional, Tuple, Union
+from typing import Iterator, List, Optional, Tuple, Union
 
 import lgm
-from lgm.library import Octets
+from lgm.library import Octets, octets
 
-MAGIC, VERSION = b"lgm map\n", 1
-HEADER = struct.Struct(">8sI")
-LEAD = struct.Struct(">BH")
-NUMBER = struct.Struct(">Q")
-CHECKSUM = struct.Struct(">I")
-END, CHANNEL, SIGNED, BANNED = range(4)
-DETAILS = {END: 8, CHANNEL: 8, SIGNED: 33, BANNED: 33}
-NAMES = {CHANNEL: "channels", SIGNED: "updates and nodes", BANNED: "bans"}
+MAGIC, VERSION = b"lgm map\n", 2
+HEADER = struct.Struct(">8sI32sQ")
+LENGTH = struct.Struct(">H")
+CHECKSUM = struct.Struct(">QQ")
+BAN, CHANNEL, UPDATE, NODE = range(1, 5)
+DETAILS = {BAN: 33, CHANNEL: 8, UPDATE: 0, NODE: 0}
+NAMES = {CHANNEL: "channels", UPDATE: "updates", NODE: "nodes", BAN: "bans"}
 
 # A record's kind, what goes with its message, and that.
 Record = Tuple[int, bytes, bytes]
-# The same behind the place where it is in a file.
-Placed = Tuple[str, int, bytes, bytes]
 
 
 class BadDump(Exception):
-    """A file that isn't a whole dump, or has what its map refuses. The text says where."""
+    """A file that isn't a whole dump, or is of another chain. The text says why, and where that is known."""
 
 
-class Changed(Exception):
-    """The map changed while it was written. The file that was there is as it was."""
-
-
-def _records(network: lgm.Map) -> Iterator[Record]:
-    """What a map has, as records: announcements of channels with their updates, then of nodes, and the bans."""
-    for scid in network.channels():
-        channel = network.channel(scid)
-        yield CHANNEL, NUMBER.pack(channel.capacity_sat), network.message(scid)
-        if channel.from_1:
-            yield SIGNED, channel.node_1, network.message(scid, lgm.UPDATE_1)
-        if channel.from_2:
-            yield SIGNED, channel.node_2, network.message(scid, lgm.UPDATE_2)
-    for point in network.nodes():
-        yield SIGNED, point, network.node_message(point)
-    for point in network.banned():
-        yield BANNED, point, b""
-
-
-def _parts(records: Iterable[Record]) -> Iterator[bytes]:
-    """The bytes of a file with these records, part by part."""
-    part = HEADER.pack(MAGIC, VERSION)
-    yield part
-    checksum, count = zlib.crc32(part), 0
-    for kind, detail, message in records:
-        part = LEAD.pack(kind, len(message)) + detail + message
-        checksum = zlib.crc32(part, checksum)
-        yield part + CHECKSUM.pack(checksum)
-        count += 1
-    part = LEAD.pack(END, 0) + NUMBER.pack(count)
-    yield part + CHECKSUM.pack(zlib.crc32(part, checksum))
-
-
-def _written(path: Path, parts: Iterable[bytes]) -> None:
+def _written(path: Path, content: bytes) -> None:
     """Writes a file beside another one, and puts it in its place once all of it is on the disk."""
     beside = path.with_name(path.name + ".new")
     with open(beside, "wb") as writer:
-        writer.writelines(parts)
+        writer.write(content)
         writer.flush()
         os.fsync(writer.fileno())
     os.replace(beside, path)
@@ -102,78 +66,64 @@ def _written(path: Path, parts: Iterable[bytes]) -> None:
 
 
 def dump(network: lgm.Map, path: Union[str, Path]) -> None:
-    """Writes what a map has. Where other threads change it meanwhile, this raises `Changed`: write what it publishes."""
-    path, version = Path(path), network.version
-
-    def unchanged() -> Iterator[Record]:
-        try:
-            yield from _records(network)
-        except lgm.Fault:
-            if network.version == version:
-                raise
-        if network.version != version:
-            raise Changed(path)
-
+    """Writes what a map has. Other calls of the map wait meanwhile: so where threads change it, write what it publishes."""
+    path = Path(path)
     try:
-        _written(path, _parts(unchanged()))
+        _written(path, network.save())
     finally:
         path.with_name(path.name + ".new").unlink(missing_ok=True)
 
 
-def read(content: bytes) -> List[Placed]:
-    """The records of a file, each with its number and the place of its first byte; only if all of it is as it was written."""
-    if len(content) < HEADER.size or content[:8] != MAGIC:
-        raise BadDump("at byte 0: this isn't a dump of a map")
-    version = HEADER.unpack_from(content)[1]
-    if version != VERSION:
-        raise BadDump(f"at byte 8: version {version}, where {VERSION} is read here")
-    found: List[Placed] = []
-    checksum, at = zlib.crc32(content[:HEADER.size]), HEADER.size
-    while True:
-        where = f"record {len(found)}, at byte {at}"
-        if len(content) < at + LEAD.size:
-            raise BadDump(f"{where}: the file ends here")
-        kind, length = LEAD.unpack_from(content, at)
+def _records(body: bytes, start: int) -> Iterator[Record]:
+    """The records of a body, which begins at a place of its file."""
+    at, number = 0, 0
+    while at < len(body):
+        where = f"record {number}, at byte {start + at}"
+        kind = body[at]
         if kind not in DETAILS:
             raise BadDump(f"{where}: there is no kind {kind}")
-        start = at + LEAD.size + DETAILS[kind]
-        end = start + length
-        if len(content) < end + CHECKSUM.size:
-            raise BadDump(f"{where}: the file ends in it")
-        checksum = zlib.crc32(content[at:end], checksum)
-        if checksum != CHECKSUM.unpack_from(content, end)[0]:
-            raise BadDump(f"{where}: it was changed")
-        record = kind, content[at + LEAD.size:start], content[start:end]
-        if kind == END:
-            break
-        found.append((where, *record))
-        at = end + CHECKSUM.size
-    if length or NUMBER.unpack(record[1])[0] != len(found):
-        raise BadDump(f"{where}: the number of records is another one")
-    if len(content) != end + CHECKSUM.size:
+        behind = at + 1 + DETAILS[kind]
+        detail, message = body[at + 1:behind], b""
+        if kind != BAN:
+            length = int.from_bytes(body[behind:behind + LENGTH.size], "big")
+            behind += LENGTH.size + length
+            message = body[behind - length:behind]
+        if behind > len(body):
+            raise BadDump(f"{where}: the records end in it")
+        yield kind, detail, message
+        at, number = behind, number + 1
+
+
+def read(content: bytes, chain: Optional[bytes] = None) -> List[Record]:
+    """The records of a file, only if all of it is as it was written, and of the chain, if one is given."""
+    if len(content) < 12 or content[:8] != MAGIC:
+        raise BadDump("at byte 0: this isn't a dump of a map")
+    if (version := int.from_bytes(content[8:12], "big")) != VERSION:
+        raise BadDump(f"at byte 8: version {version}, where {VERSION} is read here")
+    if len(content) < HEADER.size:
+        raise BadDump(f"at byte {len(content)}: the file ends in its header")
+    _, _, found, length = HEADER.unpack_from(content)
+    end = HEADER.size + length
+    if len(content) < end + CHECKSUM.size:
+        raise BadDump(f"at byte {len(content)}: the file ends here, where it is to have {end + CHECKSUM.size} bytes")
+    if len(content) > end + CHECKSUM.size:
         raise BadDump(f"at byte {end + CHECKSUM.size}: the file goes on behind its end")
-    return found
+    sums = sum(content[:end]) % 2**64, sum(accumulate(content[:end])) % 2**64
+    if sums != CHECKSUM.unpack_from(content, end):
+        raise BadDump("the file was changed: it hasn't the checksum that it tells")
+    if chain is not None and found != chain:
+        raise BadDump(f"at byte 12: it is of another chain, {found.hex()}")
+    return list(_records(content[HEADER.size:end], HEADER.size))
 
 
 def load(path: Union[str, Path], chain: Octets, known: Optional[Octets] = None, seed: Optional[Octets] = None) -> lgm.Map:
     """A new map with what a file has. `chain`, `known` and `seed` are those of `Map`. There is no map if this raises."""
-    found = read(Path(path).read_bytes())
-    network = lgm.Map(chain, known, seed)
+    content, chain = Path(path).read_bytes(), octets("chain", chain, 32)
     try:
-        for where, kind, detail, message in found:
-            try:
-                if kind == CHANNEL:
-                    network.offer(message, lgm.ALL_FOUR, NUMBER.unpack(detail)[0])
-                elif kind == SIGNED:
-                    network.offer(message, detail)
-                else:
-                    network.ban(detail)
-            except lgm.Refused as fault:
-                raise BadDump(f"{where}: {fault.word}") from None
-    except BaseException:
-        network.close()
-        raise
-    return network
+        return lgm.Map.load(content, chain, known, seed)
+    except lgm.NotSaved:
+        read(content, chain)
+        raise BadDump("a message of it isn't one of its kind") from None
 
 
 def main() -> None:
@@ -184,7 +134,7 @@ def main() -> None:
         found = read(Path(sys.argv[1]).read_bytes())
     except (BadDump, OSError) as fault:
         sys.exit(f"lgm.dump: {fault}")
-    counts = Counter(kind for _, kind, _, _ in found)
+    counts = Counter(kind for kind, _, _ in found)
     print(*(f"{counts[kind]} {name}" for kind, name in NAMES.items()), sep=", ")
 
 

@@ -3,11 +3,11 @@
 from __future__ import annotations
 
 import sys
-from typing import Any, Callable, Iterator, List, Tuple
+from typing import Any, Callable, Iterator, List, Tuple, Type
 
 from .faults import check
 from .handle import Handle, alone
-from .library import ESTIMATE, Buffer, Octets, number, octets
+from .library import ESTIMATE, Buffer, Octets, instance, number, octets
 from .numbered import Nothing
 from .records import Estimate
 
@@ -16,8 +16,7 @@ Entry = Tuple[int, bytes, Estimate]
 
 def packed_estimate(estimate: Estimate) -> bytes:
     """An estimate as C has it."""
-    if not isinstance(estimate, Estimate):
-        raise TypeError(f"an estimate is of the class Estimate, and not {type(estimate).__name__}")
+    instance("estimate", estimate, Estimate)
     return ESTIMATE.pack(*(number(name, getattr(estimate, name), 2**64) for name in (
         "least_msat", "most_msat", "penalty_msat")))
 
@@ -34,13 +33,29 @@ class Estimates(Handle):
     def __init__(self) -> None:
         """Nothing is known."""
         self._set_up()
-        self._scid, self._start, self._estimate = Buffer(8), Buffer(33), Buffer(ESTIMATE.size)
         check(self._library.lgm_estimates_open(self._at))
+
+    @classmethod
+    def load(cls: Type[Estimates], saved: Octets) -> Estimates:
+        """What was saved as these bytes. Raises `NotSaved` of any others."""
+        saved, made = octets("saved", saved), cls._closed()
+        check(made._library.lgm_estimates_load(made._at, saved, len(saved)))
+        return made
+
+    @alone
+    def save(self) -> bytes:
+        """What is known of edges, as bytes for `load`."""
+        return self._saved(self._library.lgm_estimates_save)
+
+    def _set_up(self) -> None:
+        """Sets a closed handle, with the lock and the buffers of its calls."""
+        super()._set_up()
+        self._scid, self._start, self._estimate = Buffer(8), Buffer(33), Buffer(ESTIMATE.size)
 
     @alone
     def _call(self, call: Callable[..., Any], scid: int, start: Octets, *arguments: Any) -> int:
         """What a call on an edge returns."""
-        return int(call(self._at, number("an id", scid, 2**64), octets("a point", start, 33), *arguments))
+        return int(call(self._at, number("scid", scid, 2**64), octets("start", start, 33), *arguments))
 
     def set(self, scid: int, start: Octets, estimate: Estimate) -> None:
         """Sets what is believed of an edge, whatever was known of it."""
@@ -65,7 +80,7 @@ class Estimates(Handle):
     @alone
     def get(self, scid: int, start: Octets) -> Estimate:
         """What is believed of an edge, also if nothing is known of it."""
-        scid, start = number("an id", scid, 2**64), octets("a point", start, 33)
+        scid, start = number("scid", scid, 2**64), octets("start", start, 33)
         check(self._library.lgm_estimate(self._at, scid, start, self._estimate.at))
         return Estimate(*ESTIMATE.unpack_from(self._estimate.bytes))
 

@@ -5,6 +5,7 @@ from __future__ import annotations
 from typing import Callable, Optional
 
 from . import library
+from .failures import failure_name
 from .fault import FAULTS as FAULTS, Fault as Fault
 from .numbered import *
 
@@ -31,6 +32,57 @@ class NoRoute(Unrouted, number=25, word="no-route"):
 
     def __str__(self) -> str:
         return f"{self.word}: {self.reason.word}" if self.reason else self.word
+
+
+class TooDear(Unpaid, number=71, word="too-dear"):
+    """The cheapest route has a fee beyond what the bound leaves: `fee_msat`."""
+
+    def __init__(self, fee_msat: int = 0) -> None:
+        super().__init__(f"the least fee is {fee_msat} msat")
+        self.fee_msat = fee_msat
+
+
+class ChannelsShort(Unpaid, number=72, word="channels-short"):
+    """The payer's channels can't send what is left, in however many parts, but only `room_msat` together."""
+
+    def __init__(self, room_msat: int = 0) -> None:
+        super().__init__(f"they can send {room_msat} msat together")
+        self.room_msat = room_msat
+
+
+class PayeeShort(Unpaid, number=73, word="payee-short"):
+    """The edges into the payee can't carry what is left, in however many parts, but only `room_msat` together."""
+
+    def __init__(self, room_msat: int = 0) -> None:
+        super().__init__(f"{room_msat} msat can reach the payee together")
+        self.room_msat = room_msat
+
+
+class PathsShort(Unpaid, number=77, word="paths-short"):
+    """The paths from the payer to the payee can't carry what is left, in however many parts, but only `room_msat` together."""
+
+    def __init__(self, room_msat: int = 0) -> None:
+        super().__init__(f"all paths can carry {room_msat} msat together")
+        self.room_msat = room_msat
+
+
+class PayeeRefused(Unpaid, number=75, word="payee-refused"):
+    """The payee returned a failure that no other try mends: its `code`, and the `name` of that in BOLT 4."""
+
+    def __init__(self, code: int = 0) -> None:
+        self.code, self.name = code, failure_name(code)
+        super().__init__(self.name)
+
+
+# The faults that come with a number of what they are about.
+DETAILED = {kind.number: kind for kind in (TooDear, ChannelsShort, PayeeShort, PathsShort, PayeeRefused)}
+
+
+def check_detailed(number: int, detail: int) -> None:
+    """Raises the fault of a number, with what it is about."""
+    if number in DETAILED:
+        raise DETAILED[number](detail)
+    check(number)
 
 
 def check(number: int) -> None:

@@ -2,13 +2,15 @@
 
 from __future__ import annotations
 
+import ctypes
 import threading
 from functools import wraps
 from types import TracebackType
 from typing import Any, Callable, ClassVar, Optional, Type, TypeVar, cast
 
 from . import library
-from .numbered import Closed
+from .faults import check
+from .numbered import Closed, Room
 
 Method = TypeVar("Method", bound=Callable[..., Any])
 Kind = TypeVar("Kind", bound="Handle")
@@ -26,7 +28,7 @@ def alone(method: Method) -> Method:
 
 
 class Handle:
-    """A handle of a map or of estimates. It isn't copied, nor pickled."""
+    """A handle of a map, of estimates or of a payer. It isn't copied, nor pickled."""
 
     _free: ClassVar[str]  # the name of the call that frees it
 
@@ -38,10 +40,27 @@ class Handle:
         self._is_closed = False
         self._library = library.load()
 
+    @classmethod
+    def _closed(cls: Type[Kind]) -> Kind:
+        """One whose handle a call is to open."""
+        made = cls.__new__(cls)
+        made._set_up()
+        return made
+
     def _check_open(self) -> None:
         """Raises `Closed` if it is closed."""
         if self._is_closed:
             raise Closed()
+
+    def _saved(self, call: Callable[..., int]) -> bytes:
+        """The bytes that a call saves. It tells their length first."""
+        needed = ctypes.c_size_t()
+        outcome = call(self._at, None, 0, ctypes.byref(needed))
+        if outcome != Room.number:
+            check(outcome)
+        room = library.Buffer(needed.value)
+        check(call(self._at, room.at, room.length, ctypes.byref(needed)))
+        return room.front(needed.value)
 
     def close(self) -> None:
         """Frees what it has. Later calls raise `Closed`, but this one."""

@@ -4,9 +4,10 @@ from __future__ import annotations
 
 import ctypes
 import os
+import platform
 from functools import lru_cache
 from pathlib import Path
-from typing import Optional, Union
+from typing import Optional, Type, TypeVar, Union
 
 from .declarations import *
 from .declarations import CALLS, SIZE, VERSION
@@ -30,16 +31,43 @@ MOST_SIZE = 2 ** (8 * ctypes.sizeof(SIZE)) - 1
 # What is taken for bytes.
 Octets = Union[bytes, bytearray, memoryview]
 
+Kind = TypeVar("Kind")
+
+
+def refusal(why: OSError) -> str:
+    """What is said of a library that can't be loaded: which file it was to be, and what to do."""
+    if Path(LIBRARY).exists():
+        told = f"{LIBRARY} is there, but can't be loaded on this machine ({platform.machine()}): {why}"
+    elif os.environ.get("LGM_LIBRARY"):
+        told = f"{LIBRARY}, which LGM_LIBRARY names, isn't found"
+    else:
+        told = (f"{NAME} isn't found: it was looked for as {' and as '.join(map(str, PLACES))}, and among the system's "
+                "libraries; LGM_LIBRARY, which names another file, isn't set")
+    return f"{told}. Install the wheel of lgm for this machine or its package for Debian, or set LGM_LIBRARY to the file"
+
+
+def version_of(library: ctypes.CDLL) -> int:
+    """The version of a library. A shared object without `lgm_version` is another one."""
+    try:
+        found: int = library.lgm_version()
+    except AttributeError:
+        raise ImportError(f"{LIBRARY} isn't the library of lgm") from None
+    return found
+
 
 @lru_cache(maxsize=None)
 def load() -> ctypes.CDLL:
-    """The library, whose calls have their types."""
-    library = ctypes.CDLL(str(LIBRARY))
+    """The library, whose calls have their types. ImportError says why it can't be loaded."""
+    try:
+        library = ctypes.CDLL(str(LIBRARY))
+    except OSError as why:
+        raise ImportError(refusal(why)) from None
+    if (found := version_of(library)) != VERSION:
+        raise ImportError(f"{LIBRARY} has version {found} of the library of lgm, and this package is for version {VERSION}: "
+                          "install both of one version")
     for name, (result, arguments) in CALLS.items():
         call = getattr(library, name)
         call.restype, call.argtypes = result, arguments
-    if library.lgm_version() != VERSION:
-        raise ImportError(f"{LIBRARY} has another version than {VERSION}")
     return library
 
 
@@ -55,11 +83,19 @@ def number(name: str, value: int, below: int, least: int = 0) -> int:
 def octets(name: str, value: Octets, length: Optional[int] = None) -> bytes:
     """Bytes, of a length that C doesn't check."""
     if not isinstance(value, (bytes, bytearray, memoryview)):
-        raise TypeError(f"{name} is bytes, and not {type(value).__name__}; bytes.fromhex makes them from digits")
+        hint = "; bytes.fromhex makes them from digits" if isinstance(value, str) else ""
+        raise TypeError(f"{name} is bytes, and not {type(value).__name__}{hint}")
     found = bytes(value)
     if length is not None and len(found) != length:
         raise ValueError(f"{name} is of {length} bytes, and not of {len(found)}")
     return found
+
+
+def instance(name: str, value: Kind, kind: Type[Kind]) -> Kind:
+    """A value of a class."""
+    if not isinstance(value, kind):
+        raise TypeError(f"{name} is of the class {kind.__name__}, and not {type(value).__name__}")
+    return value
 
 
 class Buffer:

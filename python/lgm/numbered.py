@@ -9,12 +9,14 @@ from .declarations import WORDS
 from .fault import Fault
 
 __all__ = [
-    "AmountTooLarge", "AmountZero", "Argument", "Banned", "Chain", "Closed", "Conflict", "ExpiryTooLarge", "Full",
-    "Funding", "Ignored", "Known", "Malformed", "NoMaximum", "NoMemory", "NodeOrder", "NotAnnounced", "NotFilter",
-    "NotGossip", "NotNewer", "NotPublished", "NotQuery", "Nothing", "Open", "PayloadsTooLong", "Point", "Private",
-    "Published", "Reason", "Refused", "Room", "SelfPayment", "Signature", "TooManyEdges", "TooManyLimits", "Undecided",
-    "UnknownChannel", "UnknownEven", "UnknownNode", "Unrouted", "WrongFunding", "WrongHops", "WrongMessage",
-    "WrongRecordOrder", "WrongRecordType", "WrongSig",
+    "Abandoned", "AlreadyPaid", "AmountTooLarge", "AmountZero", "Argument", "Banned", "BeyondRoute", "Chain", "Closed",
+    "Conflict", "ExpiryTooLarge", "ForeignChannel", "ForeignCode", "Full", "Funding", "Ignored", "Known", "Malformed",
+    "NoMaximum", "NoMemory", "NoParts", "NodeOrder", "NotAnnounced", "NotFilter", "NotGossip", "NotNewer", "NotPublished",
+    "NotQuery", "NotReply", "NotSaved", "NotUnderWay", "Nothing", "NothingUnderWay", "NumbersUsedUp", "Open",
+    "PayloadsTooLong", "Point", "Private", "Published", "Reason", "ReckonedAhead", "ReckonedBefore", "Refused", "Room",
+    "SelfPayment", "Signature", "TooManyEdges", "TooManyLimits", "TriesUsedUp", "Undecided", "UnderWay", "UnknownChannel",
+    "UnknownEven", "UnknownNode", "UnknownPart", "UnknownPayment", "Unpaid", "Unrouted", "Untold", "WrongFunding",
+    "WrongHops", "WrongMessage", "WrongRecordOrder", "WrongRecordType", "WrongSig",
 ]
 
 
@@ -124,6 +126,74 @@ class Reason(IntEnum):
         return WORDS[self]
 
 
+class Unpaid(Fault):
+    """No part of a payment can be sent (lgm_payer_next). Parts that are under way are still to be waited for."""
+
+
+class TriesUsedUp(Unpaid, number=74, word="tries-used-up"):
+    """As many parts as the bound allows were sent."""
+
+
+class Abandoned(Unpaid, number=76, word="abandoned"):
+    """The payment was abandoned."""
+
+
+class Untold(Fault):
+    """A payer can't be told this of a payment."""
+
+
+class UnknownPayment(Untold, number=81, word="unknown-payment"):
+    """No payment has this number: none was begun with it, or it was forgotten."""
+
+
+class UnknownPart(Untold, number=82, word="unknown-part"):
+    """The payment has no part with this number."""
+
+
+class NotUnderWay(Untold, number=83, word="not-under-way"):
+    """The part isn't under way: it failed before, or has arrived."""
+
+
+class BeyondRoute(Untold, number=84, word="beyond-route"):
+    """The failure is said to be of a node beyond the part's route."""
+
+
+class ForeignCode(Untold, number=85, word="foreign-code"):
+    """The node at this place doesn't send this failure code."""
+
+
+class NothingUnderWay(Untold, number=86, word="nothing-under-way"):
+    """Nothing of the payment is under way, so the payee can't have taken it."""
+
+
+class AlreadyPaid(Untold, number=87, word="already-paid"):
+    """The payee took the whole before."""
+
+
+class UnderWay(Untold, number=88, word="under-way"):
+    """Parts of the payment are under way, so it can't be forgotten."""
+
+
+class ForeignChannel(Untold, number=89, word="foreign-channel"):
+    """One of the payer's channels, as they were told, doesn't leave the payer."""
+
+
+class ReckonedAhead(Untold, number=90, word="reckoned-ahead"):
+    """The payer's channels are said to reckon parts that weren't sent yet."""
+
+
+class ReckonedBefore(Untold, number=91, word="reckoned-before"):
+    """The payer's channels don't reckon parts of a paid payment that was forgotten."""
+
+
+class NoParts(Untold, number=92, word="no-parts"):
+    """The bound allows no part to be under way."""
+
+
+class NumbersUsedUp(Untold, number=93, word="numbers-used-up"):
+    """2^64 - 1 payments were begun, or parts sent."""
+
+
 class Undecided(Fault, number=26, word="undecided"):
     """Labels or steps ran out before a route was found: it says nothing about the payment."""
 
@@ -138,6 +208,14 @@ class NotFilter(Fault, number=32, word="not-filter"):
 
 class NotAnnounced(Fault, number=33, word="not-announced"):
     """The map has no announcement of the node."""
+
+
+class NotSaved(Fault, number=34, word="not-saved"):
+    """The bytes aren't those of a saved map of this chain, payer or estimates, as they were written."""
+
+
+class NotReply(Fault, number=35, word="not-reply"):
+    """The message isn't a 264."""
 
 
 class Closed(Fault, number=100, word="closed"):

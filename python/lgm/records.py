@@ -1,4 +1,5 @@
-"""What a caller passes and gets: edges, limits, estimates and preferences; hops and routes; channels and nodes."""
+"""What a caller passes and gets: edges, limits, estimates and preferences; hops and routes; channels and nodes; messages to be
+verified."""
 
 from __future__ import annotations
 
@@ -113,6 +114,31 @@ class Channel:
 
 
 @dataclass(frozen=True)
+class Pruned:
+    """A channel that was closed since it is old, with the timestamp of its latest update; 0 without one."""
+
+    scid: int
+    timestamp: int
+
+
+@dataclass(frozen=True)
+class Signed:
+    """A message, as who verifies it sees it: by its type, such as 258, and the id of its channel, if it is of one, with the parts
+    of the id. Each of the signatures is by the key in its place, over the double SHA-256 of the bytes `signed`. An update
+    doesn't name its key, which `Map.wanted` tells: it is that of node 2 of the channel if `is_second`, else of node 1."""
+
+    type: int
+    scid: Optional[int]
+    block: int
+    transaction: int
+    output: int
+    is_second: bool
+    keys: Tuple[bytes, ...]
+    signatures: Tuple[bytes, ...]
+    signed: bytes
+
+
+@dataclass(frozen=True)
 class Node:
     """A node's announcement."""
 
@@ -120,6 +146,18 @@ class Node:
     rgb: bytes
     alias: bytes
     addresses: bytes
+
+
+@dataclass(frozen=True)
+class Lacking:
+    """A channel of which a map lacks messages that a peer has: the timestamps of the peer's updates by node 1 and node 2, which
+    are 0 without an update, or if the reply tells none; and `flags`, which messages are lacking. Bit 0 is the announcement, bits
+    1 and 2 are the updates of node 1 and node 2, bits 3 and 4 the announcements of these nodes."""
+
+    scid: int
+    timestamp_1: int = 0
+    timestamp_2: int = 0
+    flags: int = 31
 
 
 def short_channel_id(text: str) -> int:

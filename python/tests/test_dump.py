@@ -10,7 +10,6 @@ import os
 import subprocess
 import sys
 import tempfile
-import zlib
 from pathlib import Path
 
 sys.dont_write_bytecode = True  # the repository gets no made files
@@ -62,34 +61,39 @@ def fault(call, *arguments):
     return None
 
 
-def ends_of(content):
-    """Where the parts of a file end: its header, and each record, by the lengths that it tells."""
-    ends = [12]
-    while ends[-1] < len(content):
-        kind, length = content[ends[-1]], int.from_bytes(content[ends[-1] + 1:ends[-1] + 3], "big")
-        ends.append(ends[-1] + 3 + (8 if kind in (0, 1) else 33) + length + 4)
-    return ends
+def checksum(content):
+    """The sum of all bytes, and the sum of these sums after each byte."""
+    first = second = 0
+    for byte in content:
+        first = (first + byte) % 2**64
+        second = (second + first) % 2**64
+    return first.to_bytes(8, "big") + second.to_bytes(8, "big")
+
+
+def whole(body, chain=CHAIN):
+    """A file with a body of records."""
+    content = b"lgm map\n\0\0\0\2" + chain + len(body).to_bytes(8, "big") + body
+    return content + checksum(content)
+
+
+def body_of(network):
+    """The records of the small map, put together by the table in `lgm.dump`."""
+    scids = [600000 << 40 | 1 << 16, 600001 << 40 | 2 << 16 | 1, 600002 << 40 | 3 << 16]
+    assert list(network.channels()) == scids
+    channels, updates = b"", b""
+    for scid, node in zip(scids, (b"\x0a", b"\x0b", b"\x0c")):
+        which = lgm.UPDATE_1 if network.channel(scid).node_1 == b"\2" + node * 32 else lgm.UPDATE_2
+        announcement, update = network.message(scid), network.message(scid, which)
+        channels += b"\2" + (100_000).to_bytes(8, "big") + len(announcement).to_bytes(2, "big") + announcement
+        updates += b"\3" + len(update).to_bytes(2, "big") + update
+    return b"\1" + b"\2" * 33 + channels + updates
 
 
 def a_file_is_laid_out_as_told(file):
-    """The bytes of a small file, put together by the table in `lgm.dump`."""
+    """The bytes of a small file."""
     with small() as network:
         dump.dump(network, file)
-        scids = [600000 << 40 | 1 << 16, 600001 << 40 | 2 << 16 | 1, 600002 << 40 | 3 << 16]
-        assert list(network.channels()) == scids
-        records = []
-        for scid, node in zip(scids, (b"\x0a", b"\x0b", b"\x0c")):
-            signer = b"\2" + node * 32
-            which = lgm.UPDATE_1 if network.channel(scid).node_1 == signer else lgm.UPDATE_2
-            records += [(b"\1", (100_000).to_bytes(8, "big"), network.message(scid)),
-                        (b"\2", signer, network.message(scid, which))]
-        records += [(b"\3", b"\2" * 33, b""), (b"\0", (7).to_bytes(8, "big"), b"")]
-    content, checked = b"lgm map\n\0\0\0\1", b"lgm map\n\0\0\0\1"
-    for kind, detail, message in records:
-        part = kind + len(message).to_bytes(2, "big") + detail + message
-        checked += part
-        content += part + zlib.crc32(checked).to_bytes(4, "big")
-    assert file.read_bytes() == content
+        assert file.read_bytes() == whole(body_of(network))
 
 
 def a_map_is_loaded_as_it_was(file):
@@ -107,76 +111,49 @@ def a_map_is_loaded_as_it_was(file):
                 assert again.read_bytes() == file.read_bytes()
 
 
-def each_changed_bit_is_found(file):
-    """A file with one bit changed is refused, by a text that names the record with it."""
+def what_was_changed_is_found(file):
+    """A file with one bit changed is refused, by the same text with a library and without one, and so is one that is cut, lacks
+    a byte or goes on."""
     with small() as network:
         dump.dump(network, file)
     content = file.read_bytes()
-    ends = ends_of(content)
     for place in range(len(content)):
-        record = sum(end <= place for end in ends)  # 0 is the header
+        others = [content[:place], content[:place] + content[place + 1:], content[:place] + b"\0" + content[place:]]
         for bit in range(8):
             changed = bytearray(content)
             changed[place] ^= 1 << bit
-            why = fault(dump.read, bytes(changed))
-            where = f"record {record - 1}, at byte {ends[record - 1]}: " if record else f"at byte {place // 8 * 8}: "
-            assert why and why.startswith(where), (place, bit, why)
-
-
-def each_cut_is_found(file):
-    """A file that ends early, lacks a byte or goes on is refused, and so is one whose records are others."""
-    content = file.read_bytes()
-    ends = ends_of(content)
-    for place in range(len(content)):
-        why = fault(dump.read, content[:place])
-        record = sum(end <= place for end in ends)
-        assert why and why.startswith(f"record {record - 1}, at byte {ends[record - 1]}: " if record else "at byte 0: ")
-        assert fault(dump.read, content[:place] + content[place + 1:])
-        assert fault(dump.read, content[:place] + b"\0" + content[place:])
+            others.append(bytes(changed))
+        for other in others:
+            why = fault(dump.read, other)
+            assert why, (place, other[place:place + 1])
+            file.write_bytes(other)
+            assert fault(dump.load, file, CHAIN) == why, (place, why)
     assert fault(dump.read, content + b"\0") == f"at byte {len(content)}: the file goes on behind its end"
-    parts = [content[start:end] for start, end in zip([0, *ends], ends)]
-    assert b"".join(parts) == content and len(parts) == 9
-    for place in range(1, 8):
-        others = parts[:place] + [parts[place + 1], parts[place]] + parts[place + 2:]
-        for made in (others, parts[:place] + parts[place + 1:]):
-            assert fault(dump.read, b"".join(made)).startswith(f"record {place - 1}, at byte {ends[place - 1]}: ")
-        twice = b"".join(parts[:place + 1] + parts[place:])
-        assert fault(dump.read, twice).startswith(f"record {place}, at byte {ends[place]}: ")
+    assert fault(dump.read, content[:-1]) == (
+        f"at byte {len(content) - 1}: the file ends here, where it is to have {len(content)} bytes")
+    assert fault(dump.read, content[:20]) == "at byte 20: the file ends in its header"
+    changed = content[:100] + bytes([content[100] ^ 1]) + content[101:]
+    assert fault(dump.read, changed) == "the file was changed: it hasn't the checksum that it tells"
 
 
-def the_count_is_held(file):
-    """A file whose end tells another number of records, with the right checksum, is refused."""
-    header = b"lgm map\n\0\0\0\1"
-    for count in (0, 1):
-        end = b"\0\0\0" + count.to_bytes(8, "big")
-        file.write_bytes(header + end + zlib.crc32(header + end).to_bytes(4, "big"))
-        why = fault(dump.read, file.read_bytes())
-        assert why == ("record 0, at byte 12: the number of records is another one" if count else None)
-
-
-def what_a_map_refuses_is_told(file):
-    """A whole file of another chain is refused by the record, and leaves no map."""
-    closed = []
-
-    class Watched(lgm.Map):
-        def close(self):
-            closed.append(self)
-            super().close()
-
+def other_files_are_told(file):
+    """A file that is none, one of the first version, one of another chain, and ones with the right checksum that no map has."""
+    assert fault(dump.read, b"GSP\1") == "at byte 0: this isn't a dump of a map"
+    assert fault(dump.read, b"lgm map\n\0\0\0\1") == "at byte 8: version 1, where 2 is read here"
     with small() as network:
-        dump.dump(network, file)
-    real, lgm.Map = lgm.Map, Watched
-    try:
-        dump.load(file, b"\xc2" * 32)
-        raise AssertionError("loaded")
-    except dump.BadDump as why:  # as long as this has it, nothing else closes the map
-        assert str(why) == "record 0, at byte 12: chain" and len(closed) == 1
-    finally:
-        lgm.Map = real
+        body = body_of(network)
+    file.write_bytes(whole(body, b"\xc2" * 32))
+    assert fault(dump.load, file, CHAIN) == f"at byte 12: it is of another chain, {'c2' * 32}"
+    assert everything(dump.load(file, b"\xc2" * 32))[3] == [b"\2" * 33]
+    for wrong, why in ((b"\5" + body, "record 0, at byte 52: there is no kind 5"),
+                       (body + b"\1", f"record 7, at byte {52 + len(body)}: the records end in it"),
+                       (body + b"\3\0\2\1\2", "a message of it isn't one of its kind")):
+        file.write_bytes(whole(wrong))
+        assert fault(dump.load, file, CHAIN) == why
 
 
 def nothing_is_lost(file):
-    """Where a file can't be written, or its map changes meanwhile, the one before stays, and nothing beside it."""
+    """Where a file can't be written, the one before stays, and nothing beside it."""
     with small() as network:
         dump.dump(network, file)
         before = file.read_bytes()
@@ -196,26 +173,13 @@ def nothing_is_lost(file):
             finally:
                 setattr(os, name, real)
             assert file.read_bytes() == before and list(file.parent.glob("*.new")) == []
-
-        for change in (lambda: network.ban(b"\2\3" + bytes(31)), lambda: network.close_channel(max(network.channels()))):
-            message, calls = network.message, []
-
-            def changing(*arguments):
-                calls.append(arguments)
-                if len(calls) == 2:
-                    change()
-                return message(*arguments)
-
-            network.message = changing
-            try:
-                dump.dump(network, file)
-                raise AssertionError("changed")
-            except dump.Changed:
-                pass
-            del network.message
-            assert file.read_bytes() == before and list(file.parent.glob("*.new")) == []
         dump.dump(network, file)
         assert file.read_bytes() != before
+    try:
+        dump.dump(network, file)
+        raise AssertionError("closed")
+    except lgm.Closed:
+        pass
 
 
 def the_program_tells_what_a_file_has(file):
@@ -224,16 +188,16 @@ def the_program_tells_what_a_file_has(file):
         dump.dump(network, file)
     words = [sys.executable, "-m", "lgm.dump", file]
     done = subprocess.run(words, capture_output=True, text=True, check=False)
-    assert (done.returncode, done.stdout) == (0, "3 channels, 3 updates and nodes, 1 bans\n"), done
+    assert (done.returncode, done.stdout) == (0, "3 channels, 3 updates, 0 nodes, 1 bans\n"), done
     file.write_bytes(file.read_bytes()[:-1])
     done = subprocess.run(words, capture_output=True, text=True, check=False)
-    assert done.returncode == 1 and done.stderr.startswith("lgm.dump: record 7, at byte "), done
+    assert done.returncode == 1 and done.stderr.startswith("lgm.dump: at byte "), done
 
 
 def main():
     """Runs each test over a file of its own."""
-    tests = (a_file_is_laid_out_as_told, a_map_is_loaded_as_it_was, each_changed_bit_is_found, each_cut_is_found,
-             the_count_is_held, what_a_map_refuses_is_told, nothing_is_lost, the_program_tells_what_a_file_has)
+    tests = (a_file_is_laid_out_as_told, a_map_is_loaded_as_it_was, what_was_changed_is_found, other_files_are_told,
+             nothing_is_lost, the_program_tells_what_a_file_has)
     with tempfile.TemporaryDirectory() as folder:
         for test in tests:
             test(Path(folder, "map"))

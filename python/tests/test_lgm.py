@@ -19,11 +19,12 @@ from pathlib import Path
 sys.dont_write_bytecode = True  # the repository gets no made files
 
 import lgm
-from lgm import payer
 
 CHAIN, POINT, SECRET = bytes(32), b"\2" + bytes(32), bytes(32)
 PAYMENT = {"payer": POINT, "payee": POINT, "amount_msat": 1, "expiry": 1, "secret": SECRET}
+LOAD = lgm.library.load.__wrapped__  # before a stub stands for it
 EDGE, LIMIT, ESTIMATE = lgm.Edge(1, POINT, POINT), lgm.Limit(1, POINT), lgm.Estimate(1, 2, 3)
+LACKING = lgm.Lacking(1)
 
 
 class Stub:
@@ -56,6 +57,11 @@ def over_edge(network, name):
 def over_limit(network, name):
     """The same over a limit."""
     return lambda value: network.route(**PAYMENT, limits=[replace(LIMIT, **{name: value})])
+
+
+def over_lacking(network, name):
+    """A query of a channel with a value in one of its fields."""
+    return lambda value: network.ask_ids([replace(LACKING, **{name: value})])
 
 
 def over_preference(network, name):
@@ -91,6 +97,7 @@ def numbers_have_ranges(network):
     """No number is cut to the type that C has for it, and none is made of something else."""
     for call, below in ((network.close_channel, 2**64), (network.channel, 2**64), (network.message, 2**64),
                         (lambda which: network.message(0, which), 2**32),
+                        (network.prune, 2**32), (lambda block: network.prune(0, block), 2**32),
                         (lambda sat: network.offer(b"", lgm.ALL_FOUR, sat), 2**64),
                         (lambda msat: network.route(**{**PAYMENT, "amount_msat": msat}), 2**64),
                         (lambda expiry: network.route(**{**PAYMENT, "expiry": expiry}), 2**32),
@@ -99,7 +106,12 @@ def numbers_have_ranges(network):
                             ("scid", 2**64), ("htlc_minimum_msat", 2**64), ("htlc_maximum_msat", 2**64),
                             ("fee_base_msat", 2**32), ("fee_proportional_millionths", 2**32),
                             ("cltv_expiry_delta", 2**16))),
-                        *((over_limit(network, name), 2**64) for name in ("scid", "most_msat"))):
+                        *((over_limit(network, name), 2**64) for name in ("scid", "most_msat")),
+                        *((over_lacking(network, name), below) for name, below in (
+                            ("scid", 2**64), ("timestamp_1", 2**32), ("timestamp_2", 2**32), ("flags", 2**8))),
+                        (network.ask_range, 2**32), (lambda blocks: network.ask_range(0, blocks), 2**32),
+                        (network.ask_filter, 2**32), (lambda seconds: network.ask_filter(0, seconds), 2**32),
+                        (lambda block: network.covered(b"", block), 2**64)):
         for value in (-1, below, below + 1000):
             assert refusal(call, value) is ValueError, (call, value)
         for value in (1.0, True, None, b"1"):
@@ -125,8 +137,9 @@ def what_is_preferred_has_a_class(network):
 
 def bytes_have_types_and_lengths(network):
     """Texts, numbers and lists aren't bytes; a point, a chain, a seed and a secret have their lengths."""
-    calls = [network.query, network.filter, network.news, network.offer, network.wanted, network.node, network.node_message,
-             network.ban, lgm.Map,
+    calls = [network.query, network.filter, network.news, network.offer, network.wanted, lgm.reads, network.lacking,
+             lambda reply: network.covered(reply, 0), lambda saved: lgm.Map.load(saved, CHAIN), lgm.Estimates.load,
+             network.node, network.node_message, network.ban, lgm.Map,
              lambda sig: network.offer(b"", 0 if isinstance(sig, str) else sig),
              lambda seed: lgm.Map(CHAIN, seed=seed if seed is not None else 0),
              lambda known: lgm.Map(CHAIN, known=known if known is not None else 0),
@@ -137,9 +150,46 @@ def bytes_have_types_and_lengths(network):
     for number, call in enumerate(calls):
         for value in ("00" * 33, 33, [0] * 33, None):
             assert refusal(call, value) is TypeError, (number, value)
-    for number, call in enumerate(calls[5:]):
+    for number, call in enumerate(calls[10:]):
         wanted = None if number == 6 else ValueError  # the feature bits are of any length
         assert refusal(call, bytes(31)) is refusal(call, bytes(34)) is wanted, number
+
+
+def says(words, call, *arguments, **named):
+    """Whether a call is refused by a text that has these words."""
+    try:
+        call(*arguments, **named)
+    except (TypeError, ValueError) as fault:
+        return all(word in str(fault) for word in words)
+    return False
+
+
+def errors_name_the_argument(network, estimates):
+    """What it may be, and what it was."""
+    route = lgm.Route((lgm.Hop(1, 1_000, 1, POINT, POINT, b""),))
+    for words, call in (
+            (("payee", "bytes", "str", "fromhex"), lambda: network.route(**{**PAYMENT, "payee": "02" * 33})),
+            (("payer", "33", "32"), lambda: network.route(**{**PAYMENT, "payer": CHAIN})),
+            (("secret", "bytes", "int"), lambda: network.route(**{**PAYMENT, "secret": 7})),
+            (("start", "33", "32"), lambda: network.route(**PAYMENT, edges=[replace(EDGE, start=CHAIN)])),
+            (("edges", "Edge", "tuple"), lambda: network.route(**PAYMENT, edges=[(1, POINT, POINT)])),
+            (("edges", "list of Edge", "Edge"), lambda: network.route(**PAYMENT, edges=EDGE)),
+            (("estimates", "Estimates", "Map"), lambda: network.route(**PAYMENT, estimates=network)),
+            (("chain", "bytes", "str"), lambda: lgm.Map("c1" * 32)), (("chain", "32", "33"), lambda: lgm.Map(POINT)),
+            (("seed", "16", "32"), lambda: lgm.Map(CHAIN, seed=CHAIN)),
+            (("sig", "ALL_FOUR", "33", "64"), lambda: network.offer(b"", bytes(64))),
+            (("sig", "NOBODY", "bytes", "int"), lambda: network.offer(b"", 3)),
+            (("funding", "SPENT", "satoshi", "b'"), lambda: network.offer(b"", lgm.ALL_FOUR, b"100")),
+            (("funding", "NOT_ASKED", "None"), lambda: network.offer(b"", lgm.ALL_FOUR, None)),
+            (("before", "Map", "Estimates"), lambda: network.news_since(estimates, b"")),
+            (("network", "Map", "Estimates"), lambda: lgm.Board(estimates)),
+            (("route", "Route", "tuple"), lambda: network.odds(route.hops)),
+            (("lacking", "Lacking", "int"), lambda: network.ask_ids([1])),
+            (("estimates", "Estimates", "Map"), lambda: network.fade(network, 1, 1)),
+            (("half_life", "4294967295", "-1"), lambda: network.fade(estimates, 1, -1)),
+            (("total_msat", "1000", "999"), lambda: lgm.payloads(route, SECRET, 999)),
+            (("records", "dict", "list"), lambda: lgm.payloads(route, SECRET, records=[(65_536, b"")]))):
+        assert says(words, call), words
 
 
 def estimates_are_of_edges(estimates):
@@ -222,10 +272,9 @@ class Answering(Stub):
     def __init__(self, number):
         super().__init__()
         self.number, self.estimates, self.is_taken, self.reason = number, None, None, 0
-        self.tries, self.asked = 0, []
+        self.asked = []
 
     def lgm_attempt_route(self, *_):
-        self.tries += 1
         self.is_taken = self.estimates is not None and self.estimates._lock.locked()
         return self.number
 
@@ -280,17 +329,6 @@ def reasons_are_found_when_they_are_asked_for():
     assert str(lgm.NoRoute()) == "no-route" and str(lgm.NoRoute(lgm.Reason.BEYOND_BOTH)) == "no-route: beyond-both"
 
 
-def a_payer_asks_for_no_reason():
-    """It divides an amount, or gives up, by the fault alone."""
-    library = Answering(25)
-    lgm.library.load = lambda: library
-    with lgm.Map(CHAIN) as network, payer.Payer(POINT) as one:
-        bounds = payer.Bounds(most_fee_msat=1_000, least_part_msat=1_000)
-        payment = one.pay(payer.Invoice(b"\3" + bytes(32), 4_000, SECRET, basic_mpp=True), bounds)
-        assert fault(payment.next_part, network, 1) is lgm.NoRoute
-    assert library.tries == 3 and library.asked == []  # of 4,000, 2,000 and 1,000 msat
-
-
 def what_is_believed_is_packed(library, estimates):
     """An estimate comes to the library as C has it, with the id and the point of its edge."""
     del library.calls[:]
@@ -323,6 +361,36 @@ def large_buffers_are_given_back():
         before = network._room
         network._written(network._library.lgm_query, b"", 0)
         assert (network._room.length > before.length) is is_kept and network._room.length <= 1 << 20
+
+
+class Pruner(Stub):
+    """A library that closes so many channels where there is room for them, as far as memory suffices."""
+
+    def __init__(self, count, most):
+        super().__init__()
+        self.count, self.most = count, most
+
+    def lgm_prune(self, _at, before, block, room, room_len, needed):
+        number = ctypes.c_size_t.from_address(needed)
+        if room_len < self.count:
+            number.value = self.count
+            return 104
+        number.value = min(self.count, self.most)
+        written = b"".join(lgm.library.PRUNED.pack(scid, before + block) for scid in range(number.value))
+        ctypes.memmove(room, written, len(written))
+        return 102 if self.most < self.count else 0
+
+
+def what_was_pruned_is_told():
+    """As many as there are, or as memory suffices for; each is counted as a close."""
+    for count, most, told in ((0, 0, 0), (3, 3, 3), (500, 500, 500), (3, 1, 1), (500, 499, 499)):
+        lgm.library.load = lambda: Pruner(count, most)
+        network = lgm.Map(CHAIN)
+        assert network.prune(5, 2) == [lgm.Pruned(scid, 7) for scid in range(told)]
+        assert network.version == told
+    lgm.library.load = lambda: Pruner(3, 0)
+    network = lgm.Map(CHAIN)
+    assert fault(network.prune, 5, 2) is lgm.NoMemory and network.version == 0
 
 
 def handles_are_not_copied(network, estimates):
@@ -395,12 +463,52 @@ def the_library_is_found_in_order():
         os.environ["LGM_LIBRARY"] = named
 
 
+def a_wrong_library_says_so():
+    """A library that isn't found, one for another machine, another one and one of another version say which file it is."""
+    library, named, cdll = lgm.library, os.environ.pop("LGM_LIBRARY", None), ctypes.CDLL
+    kept = library.LIBRARY, library.PLACES
+
+    def said():
+        """What the import error says."""
+        try:
+            LOAD()
+        except ImportError as why:
+            return str(why)
+
+    with tempfile.TemporaryDirectory() as folder:
+        library.PLACES = Path(folder, "first"), Path(folder, "second")
+        library.LIBRARY = library.place()
+        install = ". Install the wheel of lgm for this machine or its package for Debian, or set LGM_LIBRARY to the file"
+        assert said() == (f"{library.NAME} isn't found: it was looked for as {folder}/first and as {folder}/second, and among "
+                          f"the system's libraries; LGM_LIBRARY, which names another file, isn't set{install}")
+        os.environ["LGM_LIBRARY"] = library.LIBRARY = f"{folder}/named"
+        assert said() == f"{folder}/named, which LGM_LIBRARY names, isn't found{install}"
+        Path(library.LIBRARY).write_bytes(b"\x7fELF")
+        assert said().startswith(f"{folder}/named is there, but can't be loaded on this machine (") and said().endswith(install)
+        for stub, told in ((object(), "isn't the library of lgm"), (Versioned(3), "has version 3 of the library of lgm, and this "
+                           f"package is for version {library.VERSION}: install both of one version")):
+            ctypes.CDLL = lambda _, stub=stub: stub
+            assert said() == f"{folder}/named {told}"
+        ctypes.CDLL = cdll
+    library.LIBRARY, library.PLACES = kept
+    del os.environ["LGM_LIBRARY"]
+    if named is not None:
+        os.environ["LGM_LIBRARY"] = named
+
+
+class Versioned:
+    """A library of which nothing is known but its version."""
+
+    def __init__(self, version):
+        self.lgm_version = lambda: version
+
+
 def each_fault_has_a_name():
     """Each class of a fault is a name of the package, and so is all that it says it exports. Each number has a class or is a
     reason, with its word, but for those of a first fault and of success."""
     assert {kind.__name__ for kind in lgm.faults.FAULTS.values()} <= {*lgm.__all__}
     assert all(hasattr(lgm, name) for name in lgm.__all__)
-    words = {number: word for number, word in lgm.library.WORDS.items() if number not in (0, 27, *range(51, 62))}
+    words = {number: word for number, word in lgm.library.WORDS.items() if number not in (0, 27, 28, *range(51, 62))}
     assert words == {number: kind.word for number, kind in (*lgm.faults.FAULTS.items(), *((one, one) for one in lgm.Reason))}
 
 
@@ -414,6 +522,7 @@ def main():
     for test in refusing:
         test(network)
     estimates_are_of_edges(estimates)
+    errors_name_the_argument(network, estimates)
     assert {name for name, *_ in library.calls} <= {"lgm_open", "lgm_free", "lgm_estimates_open"}
     bytes_of_any_kind_are_taken(network, library)
     what_a_payer_knows_is_packed(library, network)
@@ -424,13 +533,14 @@ def main():
     the_version_waits_for_nobody(network)
     ids_have_parts()
     the_library_is_found_in_order()
+    a_wrong_library_says_so()
     each_fault_has_a_name()
     large_buffers_are_given_back()
+    what_was_pruned_is_told()
     routes_tell_whether_they_are_the_best()
     reasons_are_found_when_they_are_asked_for()
-    a_payer_asks_for_no_reason()
     a_closed_handle_is_refused()
-    print(f"{len(refusing) + 16} passed")
+    print(f"{len(refusing) + 18} passed")
 
 
 if __name__ == "__main__":
