@@ -1,5 +1,6 @@
 #!/usr/bin/env python3
-"""Runs the programs of docs/embedding.md and the recipes of docs/operating.md, as the pages have them, over the library.
+"""Runs the programs of docs/embedding.md and docs/paying.md and the recipes of docs/operating.md and docs/node.md, as the pages
+have them.
 
     LGM_LIBRARY=FOLDER/liblgm.so python3 examples/test_recipes.py FOLDER
 
@@ -16,10 +17,10 @@ from types import SimpleNamespace
 sys.dont_write_bytecode = True  # the repository gets no made files
 
 from blocks import block
-from test_embedding import CHAIN, CHANNELS, HERE, TOP, announced, is_wanted, made_script, output, stored
+from embedding.common import CHAIN, CHANNELS, HERE, TOP, announced, is_wanted, made_script, output, stored
 
-import lgm  # of python, where test_embedding.py leads to
-from lgm.payer import Bounds, Invoice, Payer
+import lgm  # of python, where embedding.common leads to
+from lgm.payer import Invoice, Payer
 
 CHAIN = bytes.fromhex(CHAIN)
 DAY = 86_400
@@ -46,36 +47,69 @@ def items_of(script):
             for _, message, sig, funding in (line for line in lines if line[:1] == ["m"])]
 
 
+class Node:
+    """A node as docs/paying.md has one, of point 1, with two channels that are connected: what it sends fails once at the second
+    hop, and then is held until all of the amount has come."""
+
+    def __init__(self, point, peer, other, amount):
+        self.point, self.height, self.amount = point, 700_000, amount
+        self.sent, self.saved, self.events, self.heard = [], [], [], 0
+        self.can_send = {1: 11_000_000, 2: 10_000_699}
+        self.peers = {1: peer, 2: other}
+
+    def channels(self):
+        """What its channels can send now."""
+        return [SimpleNamespace(scid=scid << 40, peer=peer, can_send=self.can_send[scid]) for scid, peer in self.peers.items()]
+
+    def store(self, saved):
+        """Keeps a payer's bytes."""
+        self.saved.append(saved)
+
+    def send(self, payment, part, hops):
+        """Sends a part, of a payer that was saved."""
+        assert len(self.saved) == len(self.sent) + 1 + self.heard
+        self.sent.append(([hop.scid >> 40 for hop in hops], hops[0].amount_msat, hops[0].expiry))
+        if len(self.sent) == 1:
+            self.events.append(SimpleNamespace(preimage=None, part=part, place=1, code="WIRE_TEMPORARY_CHANNEL_FAILURE"))
+        else:
+            self.events.append(SimpleNamespace(preimage=bytes(32)))
+
+    def wait(self, _payment):
+        """The next event."""
+        self.heard += 1
+        return self.events.pop(0)
+
+    def offer_update(self, _network, _event):
+        """No update comes with a failure here."""
+        return False
+
+
 def an_invoice_is_paid():
-    """From an invoice to the second try, over the channels of examples/payments.txt."""
+    """From an invoice to the second try, over the channels of examples/payments.txt, by the program of docs/paying.md."""
 
     def point(letter):
         return b"\2" + bytes([letter]) * 32
 
-    def send(route, payloads):
-        assert len(payloads) == len(route.hops)
-        sent.append(([hop.scid >> 40 for hop in route.hops], route.sent_msat, route.expiry))
-        return (1, "temporary_channel_failure") if len(sent) == 1 else (None, None)
-
-    payee, sent = point(2), []
-    hint = SimpleNamespace(scid=7 << 40, node=point(13), next=payee, base=700, millionths=0, delta=40)
-    invoice = SimpleNamespace(hints=[hint], payee=payee, msat=10_000_000, secret=bytes(32), min_final_cltv_expiry_delta=18,
-                              metadata=None, basic_mpp=False)
-    channels = [SimpleNamespace(scid=scid << 40, peer=peer, can_send=can_send, is_connected=is_connected)
-                for scid, peer, can_send, is_connected in (
-                    (1, point(11), 11_000_000, True), (2, point(13), 10_000_699, True), (3, point(13), 11_000_000, False))]
-    names = {"channels": channels, "invoice": invoice, "height": 700_000, "most_fee": 10_000, "send": send, "Edge": lgm.Edge,
-             "Invoice": Invoice, "Bounds": Bounds}
-    with lgm.Map(CHAIN) as names["network"], Payer(point(1)) as names["payer"]:
+    payee = point(2)
+    hint = lgm.Edge(7 << 40, point(13), payee, 700, 0, 40)
+    invoice = Invoice(payee, 10_000_000, bytes(32), hints=(hint,))
+    names, node = {}, Node(point(1), point(11), point(13), 10_000_000)
+    exec(block("docs/paying.md", "from lgm import Edge, Undecided, Unrouted"), names)
+    with lgm.Map(CHAIN) as network, Payer(point(1)) as payer:
         for item in items_of((HERE / "payments.txt").read_text()):
-            names["network"].offer(*item)
-        exec(block("docs/operating.md", "payer.channels = [Edge(c.scid, payer.point, c.peer"), names)
-        assert names["payment"].is_paid
-        learnt = {scid >> 40: (known.least_msat, known.most_msat) for scid, _, known in names["payer"].estimates}
+            network.offer(*item)
+        assert names["pay"](payer, network, node, invoice, 10_000) is None
+        assert [payment.is_paid for payment in payer.payments] == [True]
+        with payer.learnt() as learnt:
+            found = {scid >> 40: (known.least_msat, known.most_msat) for scid, _, known in learnt}
+        with Payer.load(node.saved[-1]) as again:
+            assert again.save() == payer.save() and again.payments[0].parts == payer.payments[0].parts
+        refused = names["pay"](payer, network, node, Invoice(payee, 10_000_000, bytes(32), hints=(hint,)), 699)
     # What the first try sent over its hop failed. Of an edge that carried its amount for good nothing is known.
-    assert learnt == {600_003: (0, 10_000_699)}
+    assert found == {600_003: (0, 10_000_699)}
+    assert type(refused) is lgm.TooDear
     # D takes 700. Then B takes 3,000 and 10 blocks; or C 500 and 300 ppm and 20 blocks, and B 1,000 and 200 ppm and 34.
-    assert sent == [
+    assert node.sent == [
         ([1, 600_003, 7], 10_003_700, 700_021 + 40 + 10), ([1, 600_001, 600_002, 7], 10_007_200, 700_021 + 40 + 20 + 34)]
 
 
@@ -117,18 +151,14 @@ def lacking(peer, items, pruned):
 
 def synchronize(own, peer, pruned, options):
     """Asks a peer for what it has of all blocks, with these options. The ids that were worth it."""
-    names, found = {"lgm": lgm, "struct": struct}, []
-    exec(block("docs/operating.md", "def worth_asking(network, reply, pruned):"), names)
+    names = {"network": own, "pruned": pruned, "lacking": []}
     for reply in peer.query(b"\1\7" + CHAIN + bytes(4) + b"\xff" * 4 + options):
-        ids = list(names["worth_asking"](own, reply, pruned))
-        encoded = b"\0" + b"".join(scid.to_bytes(8, "big") for scid in ids)
-        for message in peer.query(b"\1\5" + CHAIN + len(encoded).to_bytes(2, "big") + encoded):
-            if id_in(message) and is_wanted(own, message, lgm):
-                key = own.wanted(message)
-                own.offer(message, key or lgm.ALL_FOUR,
-                          lgm.NOT_ASKED if key else peer.channel(id_in(message)).capacity_sat)
-        found += ids
-    return found
+        exec(block("docs/node.md", "lacking += [it for it in"), {**names, "reply": reply})
+    for message in peer.query(own.ask_ids(names["lacking"])):
+        if id_in(message) and is_wanted(own, message, lgm):
+            key = own.wanted(message)
+            own.offer(message, key or lgm.ALL_FOUR, lgm.NOT_ASKED if key else peer.channel(id_in(message)).capacity_sat)
+    return [it.scid for it in names["lacking"]]
 
 
 def maps_are_synchronized():
@@ -162,8 +192,8 @@ def old_channels_are_pruned():
     with lgm.Map(CHAIN) as network:
         for item in items:
             network.offer(*item)
-        names = {"network": network, "pruned": {}, "time": SimpleNamespace(time=lambda: newest + 7 * DAY)}
-        exec(block("docs/operating.md", "old = time.time() - 14 * 86_400"), names)
+        names = {"network": network, "pruned": {}, "height": 2_016, "time": SimpleNamespace(time=lambda: newest + 7 * DAY)}
+        exec(block("docs/node.md", "old = int(time.time()) - 14 * 86_400"), names)
         assert names["pruned"] == old and 0 < len(old) < CHANNELS
         assert list(network.channels()) == sorted(channels.keys() - old.keys())
 

@@ -225,6 +225,32 @@ static void banning(void) {
     lgm_free(&map);
 }
 
+/* Three channels are pruned, while one allocation fails: those that were closed are told, and another call goes on. */
+static void pruning(void) {
+    lgm_map map = {0};
+    lgm_pruned pruned[3];
+    uint8_t channel[ANNOUNCEMENT];
+    size_t needed, told = 0;
+    uint32_t number;
+    announcement(channel);
+    AGAIN("opening", lgm_open(&map, chain, true, channel, 0, seed), LGM_OK);
+    for (uint64_t i = 0; i < 3; i++) {
+        put_number(channel + 292, scid + (i << 16), 8);
+        AGAIN("a channel", lgm_offer(&map, channel, ANNOUNCEMENT, LGM_SIG_ALL_FOUR, a, LGM_FUNDING_UNSPENT, 100000), LGM_OK);
+    }
+    AGAIN("a mark", lgm_mark(&map), LGM_OK);
+    do {
+        number = lgm_prune(&map, 0, 600001, pruned, 3, &needed);
+        for (size_t i = 0; i < needed; i++) expect("an id", pruned[i].scid, scid + ((told + i) << 16));
+        told += needed;
+        expect("what is left", lgm_count(&map), 3 - told);
+        expect("what was accepted", lgm_version_of(&map), 3 + told);
+    } while (number == LGM_NO_MEMORY && has_failed);
+    expect("pruning", number, LGM_OK);
+    expect("what was pruned", told, 3);
+    lgm_free(&map);
+}
+
 /* Each call with a buffer of each length: nothing is written where it is too short, nor past the answer. */
 typedef uint32_t messages_call(lgm_map *, const uint8_t *, size_t, uint8_t *, size_t, size_t *);
 
@@ -488,6 +514,7 @@ int main(void) {
         left = ++requests;
         out_of_memory();
         banning();
+        pruning();
         payloads_without_memory();
         left = 0;
     } while (has_failed);

@@ -17,7 +17,7 @@ from gossip.messages import CHAIN
 from gossip.networks import Network
 from gossip.workloads import HEIGHT, sync, updates
 from lgm import ALL_FOUR, Board, Edge, Fault, Map, Refused
-from lgm.payer import Bounds, Invoice, Payer, Unpaid
+from lgm.payer import Bounds, Invoice, Payer
 
 CHANNELS, PAYMENTS, READERS, ROUND = 2_000, 200, 4, 100
 
@@ -34,23 +34,23 @@ def follow(board, network, lines):
             board.publish()
 
 
-def send(route, draws):
-    """What becomes of a try: the node that returns an error, if one does, and the error."""
-    for place in range(1, len(route.hops)):
-        if draws.random() < 0.1:
-            return place, "temporary_channel_failure"
-    return None, None
+def send(part, draws):
+    """What becomes of a part: the place of the node that can't forward it, or None if the payee holds it."""
+    return next((place for place in range(1, len(part.route.hops)) if draws.random() < 0.1), None)
 
 
 def pay(board, payer, invoice, draws):
-    """How a payment ends."""
+    """How a payment ends: the payee takes the whole once all parts have come, and else gives back what it holds."""
     payment = payer.pay(invoice, Bounds(most_fee_msat=invoice.amount_msat // 50))
     try:
         while part := payment.next_part(board.latest(), HEIGHT):
-            node, error = send(part.route, draws)
-            payment.failed(part, error, node) if error else payment.arrived(part)
-    except (Fault, Unpaid) as end:
-        return type(end).__name__
+            if (place := send(part, draws)) is not None:
+                payment.failed(part, place, "temporary_channel_failure")
+    except Fault as why:
+        for part in payment.parts_under_way:
+            payment.failed(part, len(part.route.hops), "mpp_timeout")
+        return type(why).__name__
+    payment.fulfilled()
     return "paid"
 
 
@@ -65,10 +65,11 @@ def main():
     """Loads a made network, pays beside the updates that come, and counts how the payments ended."""
     made = Network(CHANNELS, 1)
     invoices, ends = SimpleQueue(), SimpleQueue()
-    with Map(CHAIN) as network, Payer(b"\2" * 33) as payer:
+    point = b"\2" * 33
+    with Map(CHAIN) as network, Payer(point) as payer:
         with Board(network) as board:
             follow(board, network, sync(made))
-            payer.channels = [Edge(scid, payer.point, node) for scid, node in enumerate(made.nodes[:5])]
+            payer.set_channels([Edge(scid, point, node) for scid, node in enumerate(made.nodes[:5])], reckoned=0)
             for node in made.nodes[-PAYMENTS:]:
                 invoices.put(Invoice(node, 50_000_000, bytes(32), basic_mpp=True))
             readers = [threading.Thread(target=read, args=(board, payer, invoices, ends, seed)) for seed in range(READERS)]

@@ -2,8 +2,9 @@
 //!
 //!     LGM_LIBRARY_DIR=$PWD/../out cargo run --offline --example calls
 
-use lgm::{Arrival, Channel, Direction, Edge, Estimate, Estimates, Fault, Found, Funding, Hop, Limit, Map, Node, Overlay};
-use lgm::{Kind, Payment, Record, Search, Sig, Which, first_fault, write_payloads};
+use lgm::{Arrival, Bounds, Channel, Direction, Edge, Ending, Estimate, Estimates, Fault, Found, Funding, Hop, Invoice, Kind};
+use lgm::{Lacking, Limit, Map, Node, Overlay, Payer, Payment, Preferences, Pruned, Record, Search, Sig, Sight, Signers, Unpaid};
+use lgm::{Which, first_fault, numbers, reads, write_payloads};
 use std::num::{NonZeroU8, NonZeroU16, NonZeroU64, NonZeroUsize};
 
 const CHAIN: [u8; 32] = [0xc1; 32];
@@ -115,6 +116,64 @@ fn published_maps() -> Result<(), Fault> {
     // A channel passes a filter once one of its updates does.
     assert_eq!(after.filter(&everything())?, after.news(&everything())?);
     assert_eq!(after.news_since(&before, &everything())?, Vec::<Vec<u8>>::new());
+    Ok(())
+}
+
+/// What a map saves is loaded as the same, and one that lacks something gets it by messages.
+fn saved_maps() -> Result<(), Fault> {
+    let (mut map, mut empty) = (Map::new(&CHAIN, None, &SEED)?, Map::new(&CHAIN, None, &SEED)?);
+    announce(&mut map, &[])?;
+    map.offer(&update(), Sig::By(A), Funding::NotAsked)?;
+    map.ban(&C)?;
+    let saved = map.save()?;
+    let again = Map::load(&CHAIN, None, &[8; 16], &saved)?;
+    assert_eq!((again.save()?, again.banned().collect::<Vec<_>>(), again.version()), (saved.clone(), vec![C], 0));
+    assert_eq!(again.news(&everything())?, Vec::<Vec<u8>>::new());
+    assert_eq!(Map::load(&[1; 32], None, &SEED, &saved).err(), Some(Fault::NOT_SAVED));
+    assert_eq!(word(Map::load(&CHAIN, None, &SEED, &saved[1..])), "not-saved");
+    let reply = map.query(&empty.ask_range(0, u32::MAX)?)?.remove(0);
+    assert_eq!(empty.covered(&reply, 0)?, u64::from(u32::MAX));
+    assert_eq!(empty.covered(&announcement(&[]), 0), Err(Fault::NOT_REPLY));
+    let lacking = empty.lacking(&reply)?;
+    assert_eq!(lacking, [Lacking { scid: SCID, timestamp_1: 5, ..Lacking::default() }]);
+    let answers = map.query(&empty.ask_ids(&lacking)?)?;
+    assert_eq!(answers[..2], [announcement(&[]), update()]);
+    announce(&mut empty, &[])?;
+    assert_eq!(empty.lacking(&reply)?.iter().map(|channel| channel.flags).collect::<Vec<_>>(), [2]);
+    assert_eq!(map.lacking(&reply)?, []);
+    assert_eq!(empty.ask_filter(0, u32::MAX)?, everything());
+    Ok(())
+}
+
+fn verifying() -> Result<(), Fault> {
+    let (channel, terms, one) = (announcement(&[9]), update(), node(&[77]));
+    let told = reads(&channel)?;
+    assert_eq!((told.kind, told.scid, told.signers), (256, Some(SCID), Signers::Channel([A, B, A, A])));
+    assert_eq!((told.signatures, told.signed), (&channel[2..258], &channel[258..]));
+    let told = reads(&terms)?;
+    assert_eq!((told.kind, told.scid, told.signers, told.signed), (258, Some(SCID), Signers::Node1, &terms[66..]));
+    let told = reads(&one)?;
+    assert_eq!((told.kind, told.scid, told.signers, told.signatures), (257, None, Signers::Node(B), &[0; 64][..]));
+    let everything = everything();
+    let told = reads(&everything)?;
+    assert_eq!((told.signers, told.signatures.len() + told.signed.len()), (Signers::Nobody, 0));
+    assert_eq!((word(reads(&[1, 0])), word(reads(&[1, 3]))), ("malformed".into(), "ignored".into()));
+    Ok(())
+}
+
+fn pruning() -> Result<(), Fault> {
+    let mut map = Map::new(&CHAIN, None, &SEED)?;
+    let ids: Vec<u64> = (0..300).map(|place| SCID + (place << 16)).collect();
+    for id in &ids {
+        let mut message = announcement(&[]);
+        message[292..300].copy_from_slice(&id.to_be_bytes());
+        map.offer(&message, Sig::AllFour(true), Funding::Unspent(1))?;
+    }
+    map.offer(&update(), Sig::By(A), Funding::NotAsked)?;
+    assert_eq!((map.prune(5, 600_000)?, word(map.publish()?.prune(6, 0))), (vec![], "published".into()));
+    assert_eq!(map.prune(6, 0)?, [Pruned { scid: SCID, timestamp: 5 }]);
+    assert_eq!(map.prune(0, 600_001)?, ids[1..].iter().map(|id| Pruned { scid: *id, timestamp: 0 }).collect::<Vec<_>>());
+    assert_eq!((map.count(), map.version()), (0, 300 + 1 + 300));
     Ok(())
 }
 
@@ -238,6 +297,67 @@ fn estimates() -> Result<(), Fault> {
     assert_eq!((estimates.at(0), estimates.at(1)), (Some((SCID, A, tried)), Some((SCID, B, own))));
     assert!(estimates.forget(SCID, &A) && !estimates.forget(SCID, &A));
     assert_eq!((estimates.count(), estimates.at(0), estimates.at(1)), (1, Some((SCID, B, own)), None));
+    let again = Estimates::load(&estimates.save()?)?;
+    assert_eq!((again.count(), again.at(0)), (1, Some((SCID, B, own))));
+    assert_eq!(Estimates::load(&[1]).err(), Some(Fault::NOT_SAVED));
+    estimates.fade(&Map::new(&CHAIN, None, &SEED)?, 1, 1)?;
+    assert_eq!(estimates.count(), 0);
+    Ok(())
+}
+
+/// A payer with a channel to A pays B over that of A, whose maximum is 50,000,000 msat.
+fn payments() -> Result<(), Fault> {
+    const PAYER: [u8; 33] = [5; 33];
+    let mut map = Map::new(&CHAIN, None, &SEED)?;
+    announce(&mut map, &[])?;
+    map.offer(&update(), Sig::By(A), Funding::NotAsked)?;
+    let mut known = Estimates::new()?;
+    known.carried(SCID, &A, 5_000)?;
+    let payer = Payer::new(&PAYER, Some(&known))?;
+    let channels = [Edge::own(1, PAYER, A, 30_000)];
+    let over = Sight { channels: &channels, height: 600_000, ..Sight::default() };
+    let invoice = Invoice { metadata: &[1], records: &[Record { kind: 65_537, value: &[9] }], ..Invoice::new(B, 10_000, [7; 32]) };
+    assert_eq!(word(payer.begin(&Invoice { amount_msat: 0, ..invoice }, &Bounds::new(100))), "amount-zero");
+    assert_eq!(word(payer.begin(&invoice, &Bounds { most_parts: 0, ..Bounds::new(100) })), "no-parts");
+    let payment = payer.begin(&invoice, &Bounds::new(100))?;
+    let refused = |sight: &Sight| payer.next_part(&map, payment, sight).err();
+    assert_eq!(refused(&Sight { channels: &[], ..over }), Some(Unpaid::ChannelsShort(0)));
+    assert_eq!(refused(&Sight { reckoned: 1, ..over }), Some(Unpaid::Other(Fault::RECKONED_AHEAD)));
+    let preferring = Sight { preferences: Some(Preferences { failure_msat: 0, hop_msat: 0 }), ..over };
+    let part = payer.next_part(&map, payment, &preferring).expect("a route").expect("a part");
+    // A charges 7 msat, and 9 millionths of 10,000. The odds are 5,000 over 49,990,001.
+    assert_eq!((part.number, part.amount_msat, part.fee_msat, part.odds, part.blocks, part.is_best), (0, 10_000, 7, 100, 61, true));
+    assert_eq!(part.hops.iter().map(|hop| (hop.scid, hop.amount_msat)).collect::<Vec<_>>(), [(1, 10_007), (SCID, 10_000)]);
+    assert!(part.hops.iter().all(|hop| hop.payload.len() == 1 + usize::from(hop.payload[0])));
+    let overlay = Overlay { edges: &channels, ..Overlay::default() };
+    assert_eq!((map.odds(&part.hops, &overlay, Some(&known))?, map.odds(&part.hops, &overlay, None)?), (100, 200));
+    assert_eq!(payer.next_part(&map, payment, &over), Ok(None));
+    let again = Payer::load(&payer.save()?)?;
+    assert_eq!((again.payments(), again.sent(), again.payment(payment)?), (vec![payment], 1, payer.payment(payment)?));
+    again.unreadable(payment, part.number)?;
+    assert_eq!(again.part(payment, 0)?.map(|sent| sent.ending), Some(Ending::Unreadable));
+    assert_eq!(Payer::load(&[1]).err(), Some(Fault::NOT_SAVED));
+    assert_eq!(payer.failed(payment, 0, 3, 0x1007, false), Err(Fault::BEYOND_ROUTE));
+    payer.failed(payment, 0, 1, 0x1007, false)?;
+    let sent = payer.part(payment, 0)?.expect("a part that was sent");
+    assert_eq!((sent.amount_msat, sent.ending, sent.hops.len()), (10_000, Ending::Failed { place: 1, code: 0x1007 }, 2));
+    assert_eq!(payer.part(payment, 1)?, None);
+    assert_eq!(payer.learnt()?.get(SCID, &A), Estimate { least_msat: 5_000, most_msat: 9_999, penalty_msat: 0 });
+    assert_eq!(known.get(SCID, &A).most_msat, u64::MAX);
+    assert_eq!(refused(&over), Some(Unpaid::PayeeShort(9_999)));
+    assert_eq!(refused(&over).map(|why| why.to_string()).unwrap(), "9999 msat can reach the payee: pay less, or pass its hints");
+    payer.fade(&map, 2, 1)?;
+    assert_eq!(payer.learnt()?.count(), 1);
+    payer.abandon(payment)?;
+    assert_eq!(refused(&over), Some(Unpaid::Other(Fault::ABANDONED)));
+    payer.forget(payment)?;
+    let paid = payer.begin(&Invoice { hints: &[Edge::hint(9, A, B, 1, 0, 0)], ..invoice }, &Bounds::new(100))?;
+    assert_eq!(word(payer.fulfilled(paid)), "nothing-under-way");
+    assert_eq!(payer.next_part(&map, paid, &over).expect("a route").map(|part| part.hops[1].scid), Some(9));
+    payer.fulfilled(paid)?;
+    assert_eq!((payer.payment(paid)?.stage, payer.payments()), (numbers::STAGE_PAID, vec![paid]));
+    assert_eq!(Fault::NO_PARTS.to_string(), "no-parts: the bound allows no part to be under way");
+    assert_eq!((Limit::excluding(1, A), Limit::most(1, A, 0).most_msat), (Limit::most(1, A, 0), 0));
     Ok(())
 }
 
@@ -250,10 +370,14 @@ fn main() -> Result<(), Fault> {
     lists()?;
     lookups()?;
     published_maps()?;
+    saved_maps()?;
+    verifying()?;
+    pruning()?;
     overlays()?;
     preferences()?;
     estimates()?;
     payloads()?;
+    payments()?;
     println!("ok");
     Ok(())
 }

@@ -55,11 +55,11 @@ pub fn write_payloads(hops: &mut [Hop], arrival: &Arrival) -> Result<(), Fault> 
     Ok(())
 }
 
-fn raw_record(record: &Record) -> raw::Record {
+pub(crate) fn raw_record(record: &Record) -> raw::Record {
     raw::Record { r#type: record.kind, value: record.value.as_ptr(), value_len: record.value.len() }
 }
 
-fn raw_hop(hop: &Hop) -> raw::Hop {
+pub(crate) fn raw_hop(hop: &Hop) -> raw::Hop {
     raw::Hop {
         scid: hop.scid,
         amount_msat: hop.amount_msat,

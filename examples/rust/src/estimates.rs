@@ -1,7 +1,7 @@
 //! What a payer has learnt of edges.
 
 use crate::raw::{self, Estimate};
-use crate::{Fault, Point, check};
+use crate::{Fault, Map, Point, check, written};
 use std::sync::{Mutex, MutexGuard, PoisonError};
 
 /// Nothing is known of an edge.
@@ -21,9 +21,27 @@ pub struct Estimates {
 impl Estimates {
     /// Nothing is known.
     pub fn new() -> Result<Estimates, Fault> {
-        let mut handle = raw::Handle::ZEROS;
         // SAFETY: a closed handle.
-        check(unsafe { raw::lgm_estimates_open(&mut handle) })?;
+        Estimates::opened(|handle| unsafe { raw::lgm_estimates_open(handle) })
+    }
+
+    /// What was saved as these bytes; others have the fault whose word is `not-saved`.
+    pub fn load(saved: &[u8]) -> Result<Estimates, Fault> {
+        // SAFETY: a closed handle, and a reference.
+        Estimates::opened(|handle| unsafe { raw::lgm_estimates_load(handle, saved.as_ptr(), saved.len()) })
+    }
+
+    /// What is known of edges, as bytes.
+    pub fn save(&self) -> Result<Vec<u8>, Fault> {
+        let mut handle = self.handle();
+        // SAFETY: a handle of this crate, and the length of the buffer.
+        written(|room, len, needed| unsafe { raw::lgm_estimates_save(&mut *handle, room, len, needed) })
+    }
+
+    /// Those in a handle that a call opens.
+    pub(crate) fn opened(open: impl FnOnce(&mut raw::Handle) -> u32) -> Result<Estimates, Fault> {
+        let mut handle = raw::Handle::ZEROS;
+        check(open(&mut handle))?;
         Ok(Estimates { handle: Mutex::new(handle) })
     }
 
@@ -67,6 +85,14 @@ impl Estimates {
     pub fn forget(&mut self, scid: u64, from: &Point) -> bool {
         // SAFETY: a handle of this crate, and a reference. An open handle has no fault but that nothing was known.
         unsafe { raw::lgm_estimates_forget(self.own_handle(), scid, from) == 0 }
+    }
+
+    /// Has what is known of edges fade: half of it is left for each half-life, both in one unit of time. What then says little is
+    /// forgotten, and so are edges of channels that the map doesn't have.
+    pub fn fade(&mut self, map: &Map, elapsed: u32, half_life: u32) -> Result<(), Fault> {
+        let mut beside = map.handle();
+        // SAFETY: two handles of this crate.
+        check(unsafe { raw::lgm_estimates_fade(self.own_handle(), &mut *beside, elapsed, half_life) })
     }
 
     /// The number of edges of which something is known.

@@ -2,13 +2,20 @@
 //!
 //! The wrapper meets the conditions of the header: its pointers come from references, a handle is in one place, is used by
 //! one call at a time, and is freed when the [`Map`] is dropped. A `Map` is `Send` and `Sync`. Threads that read beside one
-//! that changes a map take a published one each, by [`Map::publish`] and [`Map::share`].
+//! that changes a map take a published one each, by [`Map::publish`] and [`Map::share`]. A [`Payer`] says what to send next for
+//! invoices, by what became of what was sent.
 
 mod arrival;
+mod edges;
 mod estimates;
 mod lookups;
 pub mod numbers;
+mod payer;
+mod pruning;
 mod raw;
+mod reading;
+mod saving;
+mod syncing;
 mod version;
 
 use std::fmt;
@@ -19,7 +26,9 @@ pub use arrival::{Arrival, Record, write_payloads};
 pub use estimates::Estimates;
 pub use lookups::{Channel, Direction, Node, Which};
 pub use numbers::Kind;
-pub use raw::{Edge, Estimate, Limit};
+pub use payer::{Ending, Invoice, Part, Payer, Preferences, Sight, SentPart, Unpaid};
+pub use raw::{Bounds, Edge, Estimate, Lacking, Limit, PaymentInfo, Pruned};
+pub use reading::{Signed, Signers, reads};
 pub use version::LIBRARY_VERSION;
 
 use numbers::{MOST_HOPS, MOST_PAYLOADS, SO_FAR, WORD_LEN};
@@ -33,7 +42,8 @@ pub fn library_version() -> u32 {
     unsafe { raw::lgm_version() }
 }
 
-/// Why a call failed, by its number (`include/lgm.h`), which is one of these constants. The map is unchanged, or the estimates.
+/// Why a call failed, by its number (`include/lgm.h`), which is one of these constants. The map is unchanged, or the estimates,
+/// or the payer.
 #[derive(Clone, Copy, Debug, PartialEq, Eq)]
 pub struct Fault(pub u32);
 
@@ -49,7 +59,7 @@ impl Fault {
 
 impl fmt::Display for Fault {
     fn fmt(&self, f: &mut fmt::Formatter<'_>) -> fmt::Result {
-        f.write_str(&self.word())
+        write!(f, "{}: {}", self.text(), self.meaning())
     }
 }
 
@@ -372,6 +382,7 @@ const _: () = {
     const fn is_shared<T: Send + Sync>() {}
     is_shared::<Map>();
     is_shared::<Estimates>();
+    is_shared::<Payer>();
 };
 
 /// An attempt as C has it, which is used while all of this lives.

@@ -18,6 +18,74 @@ impl Handle {
     pub(crate) const ZEROS: Handle = Handle { is_open: false, at: ptr::null_mut() };
 }
 
+/// A message, as who verifies it sees it.
+#[repr(C)]
+#[derive(Clone, Copy, Debug, PartialEq, Eq)]
+pub struct Signed {
+    /// The id of its channel, or 0.
+    pub scid: u64,
+    /// Where the bytes begin whose double SHA-256 is signed: they end where the message does.
+    pub signed_from: usize,
+    /// The parts of the id: the height of the block with the funding transaction.
+    pub block: u32,
+    /// The index of that transaction in the block.
+    pub transaction: u32,
+    /// The index of the funding output in it.
+    pub output: u16,
+    /// 256, a channel_announcement; 257, a node_announcement; 258, a channel_update; or another one.
+    pub r#type: u16,
+    /// Whether it is of a channel: a channel_announcement or a channel_update.
+    pub has_scid: bool,
+    /// Of a channel_update: whether node 2 of the channel signs it, and not node 1.
+    pub is_second: bool,
+    /// How many it has, of 64 bytes each, one after the other from byte 2 on: 4, 1 or 0.
+    pub signatures: u8,
+    /// The key of the first signature: of a channel_announcement node 1, of a node_announcement its node.
+    pub key_1: [u8; 33],
+    /// That of the second one, which a channel_announcement alone has: node 2.
+    pub key_2: [u8; 33],
+    /// That of the third one: bitcoin_key_1.
+    pub key_3: [u8; 33],
+    /// That of the fourth one: bitcoin_key_2.
+    pub key_4: [u8; 33],
+}
+
+impl Signed {
+    /// All zeros.
+    pub(crate) const ZEROS: Signed = Signed {
+        scid: 0,
+        signed_from: 0,
+        block: 0,
+        transaction: 0,
+        output: 0,
+        r#type: 0,
+        has_scid: false,
+        is_second: false,
+        signatures: 0,
+        key_1: [0; 33],
+        key_2: [0; 33],
+        key_3: [0; 33],
+        key_4: [0; 33],
+    };
+}
+
+/// A channel that was closed since it is old.
+#[repr(C)]
+#[derive(Clone, Copy, Debug, PartialEq, Eq)]
+pub struct Pruned {
+    pub scid: u64,
+    /// Of its latest update, in seconds since 1970; 0 without one.
+    pub timestamp: u32,
+}
+
+impl Pruned {
+    /// All zeros.
+    pub(crate) const ZEROS: Pruned = Pruned {
+        scid: 0,
+        timestamp: 0,
+    };
+}
+
 /// A payment to be made.
 #[repr(C)]
 #[derive(Clone, Copy, Debug, PartialEq, Eq)]
@@ -291,6 +359,236 @@ impl Attempt {
     };
 }
 
+/// What a payee asks for (BOLT 11), as the caller has decoded it, and what else the payer sends to it.
+#[repr(C)]
+#[derive(Clone, Copy, Debug, PartialEq, Eq)]
+pub struct Invoice {
+    /// 1 or more; where the invoice has none, it is the payer's choice.
+    pub amount_msat: u64,
+    /// Of the fields `r`: an edge from each node to the next, the last one to the payee.
+    pub hints: *const Edge,
+    pub hints_len: usize,
+    /// The payment metadata, of the field `m`; with the length 0, none.
+    pub metadata: *const u8,
+    pub metadata_len: usize,
+    /// Custom records, by ascending types.
+    pub records: *const Record,
+    pub records_len: usize,
+    /// In blocks, of the field `c`.
+    pub min_final_cltv_expiry_delta: u16,
+    /// Whether the payee takes several parts: feature 16 or 17.
+    pub basic_mpp: bool,
+    pub payee: [u8; 33],
+    /// The payment secret, of the field `s`.
+    pub secret: [u8; 32],
+}
+
+impl Invoice {
+    /// All zeros.
+    pub(crate) const ZEROS: Invoice = Invoice {
+        amount_msat: 0,
+        hints: ptr::null(),
+        hints_len: 0,
+        metadata: ptr::null(),
+        metadata_len: 0,
+        records: ptr::null(),
+        records_len: 0,
+        min_final_cltv_expiry_delta: 0,
+        basic_mpp: false,
+        payee: [0; 33],
+        secret: [0; 32],
+    };
+}
+
+/// What a payment may take.
+#[repr(C)]
+#[derive(Clone, Copy, Debug, PartialEq, Eq)]
+pub struct Bounds {
+    /// The fees of all parts together that are under way or have arrived.
+    pub most_fee_msat: u64,
+    /// Of a part, if the amount is divided.
+    pub least_part_msat: u64,
+    /// Parts that are ever sent.
+    pub most_tries: usize,
+    /// Parts that are under way or have arrived, where the payee takes several: 1 or more.
+    pub most_parts: usize,
+    /// Until the first HTLC of a part expires.
+    pub most_blocks: u16,
+}
+
+impl Bounds {
+    /// All zeros.
+    pub(crate) const ZEROS: Bounds = Bounds {
+        most_fee_msat: 0,
+        least_part_msat: 0,
+        most_tries: 0,
+        most_parts: 0,
+        most_blocks: 0,
+    };
+}
+
+/// What a payer sees when it asks for a part of a payment.
+#[repr(C)]
+#[derive(Clone, Copy, Debug, PartialEq, Eq)]
+pub struct Sight {
+    /// The payer's channels: edges out of it, each with what it can send now, which may be 0.
+    pub channels: *const Edge,
+    pub channels_len: usize,
+    /// How many parts they reckon: all with a lower number. What later ones take is deducted.
+    pub reckoned: u64,
+    /// As of lgm_search.
+    pub most_steps: u64,
+    /// As of lgm_search.
+    pub most_labels: usize,
+    /// The height of the chain.
+    pub height: u32,
+    /// What a failed try is worth to the payer, if it `prefers`.
+    pub failure_msat: u32,
+    /// What each hop is, if it `prefers`.
+    pub hop_msat: u32,
+    /// Whether these two count. Otherwise a failed try is worth 200 millionths of the payment's amount, but a
+    /// hundredth of it up to 20 satoshi, and a hop half a satoshi.
+    pub prefers: bool,
+}
+
+impl Sight {
+    /// All zeros.
+    pub(crate) const ZEROS: Sight = Sight {
+        channels: ptr::null(),
+        channels_len: 0,
+        reckoned: 0,
+        most_steps: 0,
+        most_labels: 0,
+        height: 0,
+        failure_msat: 0,
+        hop_msat: 0,
+        prefers: false,
+    };
+}
+
+/// A part that is under way from now on.
+#[repr(C)]
+#[derive(Clone, Copy, Debug, PartialEq, Eq)]
+pub struct Part {
+    /// Its number: how many parts the payer had sent before.
+    pub part: u64,
+    /// What the payee gets.
+    pub amount_msat: u64,
+    /// What is sent beyond that.
+    pub fee_msat: u64,
+    /// What comes with some faults, see lgm_payer_next; unchanged otherwise.
+    pub detail: u64,
+    /// The numbers of its hops, and of the bytes of their payloads.
+    pub lengths: Lengths,
+    /// The odds that it fails, in millionths, as lgm_odds has them.
+    pub odds: u32,
+    /// From the height until its first HTLC expires.
+    pub blocks: u32,
+    /// False, if its route may not be the best one, since labels or steps ran out.
+    pub is_best: bool,
+}
+
+impl Part {
+    /// All zeros.
+    pub(crate) const ZEROS: Part = Part {
+        part: 0,
+        amount_msat: 0,
+        fee_msat: 0,
+        detail: 0,
+        lengths: Lengths::ZEROS,
+        odds: 0,
+        blocks: 0,
+        is_best: false,
+    };
+}
+
+/// A payment.
+#[repr(C)]
+#[derive(Clone, Copy, Debug, PartialEq, Eq)]
+pub struct PaymentInfo {
+    pub amount_msat: u64,
+    /// What is neither under way nor has arrived.
+    pub left_msat: u64,
+    /// Of the parts that are under way or have arrived.
+    pub fee_msat: u64,
+    /// How many were ever sent.
+    pub parts: usize,
+    /// How many of them haven't failed: they are under way, or have arrived if it is paid.
+    pub parts_held: usize,
+    pub stage: u32,
+}
+
+impl PaymentInfo {
+    /// All zeros.
+    pub(crate) const ZEROS: PaymentInfo = PaymentInfo {
+        amount_msat: 0,
+        left_msat: 0,
+        fee_msat: 0,
+        parts: 0,
+        parts_held: 0,
+        stage: 0,
+    };
+}
+
+/// A part that was sent.
+#[repr(C)]
+#[derive(Clone, Copy, Debug, PartialEq, Eq)]
+pub struct PartInfo {
+    /// Its number.
+    pub part: u64,
+    /// What the payee gets.
+    pub amount_msat: u64,
+    /// What is sent beyond that.
+    pub fee_msat: u64,
+    /// How many hops its route has.
+    pub hops: usize,
+    /// From the height at which it was asked for until its first HTLC expires.
+    pub blocks: u32,
+    /// How it ended.
+    pub ending: u32,
+    /// The failure_code, of a part that failed with a message; else 0.
+    pub code: u16,
+    /// The place of the node that returned it; else 0.
+    pub place: u8,
+}
+
+impl PartInfo {
+    /// All zeros.
+    pub(crate) const ZEROS: PartInfo = PartInfo {
+        part: 0,
+        amount_msat: 0,
+        fee_msat: 0,
+        hops: 0,
+        blocks: 0,
+        ending: 0,
+        code: 0,
+        place: 0,
+    };
+}
+
+/// A channel of which a map lacks messages that a peer has. The timestamps are those of the peer's updates by node 1
+/// and by node 2, in seconds since 1970, and 0 without an update, or if the reply tells none: who has pruned an old
+/// channel compares them.
+#[repr(C)]
+#[derive(Clone, Copy, Debug, PartialEq, Eq)]
+pub struct Lacking {
+    pub scid: u64,
+    pub timestamp_1: u32,
+    pub timestamp_2: u32,
+    /// Bit 0: the announcement; bits 1 and 2: the updates of node 1 and node 2; bits 3 and 4: these nodes.
+    pub flags: u8,
+}
+
+impl Lacking {
+    /// All zeros.
+    pub(crate) const ZEROS: Lacking = Lacking {
+        scid: 0,
+        timestamp_1: 0,
+        timestamp_2: 0,
+        flags: 0,
+    };
+}
+
 /// The terms of a channel's direction, from its channel_update. If the map has none, all is 0.
 #[repr(C)]
 #[derive(Clone, Copy, Debug, PartialEq, Eq)]
@@ -380,6 +678,19 @@ unsafe extern "C" {
     ) -> u32;
     /// Frees the map of a handle, if it is open, and closes the handle.
     pub fn lgm_free(map: *mut Handle);
+    /// Writes the map of a handle as bytes, with its chain, a version and a checksum, and their length to `needed`.
+    pub fn lgm_save(map: *mut Handle, bytes: *mut u8, bytes_len: usize, needed: *mut usize) -> u32;
+    /// Opens a closed handle with the map of this chain that was saved as these bytes, and sets its mark there.
+    pub fn lgm_load(
+        map: *mut Handle,
+        chain: *const [u8; 32],
+        all_known: bool,
+        known: *const u8,
+        known_len: usize,
+        seed: *const [u8; 16],
+        bytes: *const u8,
+        bytes_len: usize,
+    ) -> u32;
     /// Offers a gossip message, beginning with the two bytes of its type, with the verdicts on it.
     pub fn lgm_offer(
         map: *mut Handle,
@@ -394,10 +705,22 @@ unsafe extern "C" {
     pub fn lgm_wanted(map: *mut Handle, message: *const u8, message_len: usize, signer: *mut [u8; 33]) -> u32;
     /// The first fault of a message, as LGM_MALFORMED doesn't tell.
     pub fn lgm_fault_of(message: *const u8, message_len: usize) -> u32;
+    /// Tells what a verifier needs of a message.
+    pub fn lgm_reads(message: *const u8, message_len: usize, read: *mut Signed) -> u32;
     /// Closes a channel, because its funding output was spent.
     pub fn lgm_close_channel(map: *mut Handle, scid: u64) -> u32;
     /// Bans a node, as contradicting announcements of a channel ban the nodes of both.
     pub fn lgm_ban(map: *mut Handle, point: *const [u8; 33]) -> u32;
+    /// Closes each channel whose latest update, of both directions, has a timestamp below `before`, in seconds since
+    /// 1970, and each channel without an update that was funded below the block `block`.
+    pub fn lgm_prune(
+        map: *mut Handle,
+        before: u32,
+        block: u32,
+        pruned: *mut Pruned,
+        pruned_len: usize,
+        needed: *mut usize,
+    ) -> u32;
     /// The number of channels, or 0 for a closed handle.
     pub fn lgm_count(map: *mut Handle) -> usize;
     /// Finds the route by which the payer sends the least, among all of 1 to 20 channels of the map.
@@ -448,6 +771,12 @@ unsafe extern "C" {
         from: *mut [u8; 33],
         estimate: *mut Estimate,
     ) -> u32;
+    /// Has what is known of edges fade, since balances move.
+    pub fn lgm_estimates_fade(estimates: *mut Handle, map: *mut Handle, elapsed: u32, half_life: u32) -> u32;
+    /// Writes what is known of edges as bytes, with a version and a checksum, and their length to `needed`.
+    pub fn lgm_estimates_save(estimates: *mut Handle, bytes: *mut u8, bytes_len: usize, needed: *mut usize) -> u32;
+    /// Opens a closed handle with what was saved as these bytes.
+    pub fn lgm_estimates_load(estimates: *mut Handle, bytes: *const u8, bytes_len: usize) -> u32;
     /// Finds the best route for an attempt by what its payer prefers and has learnt of edges, in a map that changes
     /// or a published one.
     pub fn lgm_attempt_route(
@@ -462,6 +791,73 @@ unsafe extern "C" {
     ) -> u32;
     /// Tells why there is no route for an attempt, whatever its payer prefers and has learnt.
     pub fn lgm_no_route_reason(map: *mut Handle, attempt: *const Attempt) -> u32;
+    /// Tells how likely a route is to fail, in millionths.
+    pub fn lgm_odds(
+        map: *mut Handle,
+        attempt: *const Attempt,
+        estimates: *mut Handle,
+        hops: *const Hop,
+        hops_len: usize,
+        odds: *mut u32,
+    ) -> u32;
+    /// Opens a closed handle with a payer that has begun no payment.
+    pub fn lgm_payer_open(payer: *mut Handle, point: *const [u8; 33], estimates: *mut Handle) -> u32;
+    /// Frees what a handle has, if it is open, and closes the handle.
+    pub fn lgm_payer_free(payer: *mut Handle);
+    /// Begins a payment, and writes its number.
+    pub fn lgm_payer_begin(
+        payer: *mut Handle,
+        invoice: *const Invoice,
+        bounds: *const Bounds,
+        payment: *mut u64,
+    ) -> u32;
+    /// Chooses the next part of a payment, beside all that is under way, and writes it, its hops and their payloads,
+    /// as lgm_payloads does.
+    pub fn lgm_payer_next(
+        payer: *mut Handle,
+        map: *mut Handle,
+        payment: u64,
+        sight: *const Sight,
+        part: *mut Part,
+        hops: *mut Hop,
+        hops_len: usize,
+        payloads: *mut u8,
+        payloads_len: usize,
+    ) -> u32;
+    /// Notes that a part failed with a failure message, and learns from it.
+    pub fn lgm_payer_failed(payer: *mut Handle, payment: u64, part: u64, place: u8, code: u16, is_renewed: bool) -> u32;
+    /// Notes that a part failed, and that no failure message could be read.
+    pub fn lgm_payer_unreadable(payer: *mut Handle, payment: u64, part: u64) -> u32;
+    /// Notes that the payee took the whole.
+    pub fn lgm_payer_fulfilled(payer: *mut Handle, payment: u64) -> u32;
+    /// Sends nothing more for a payment.
+    pub fn lgm_payer_abandon(payer: *mut Handle, payment: u64) -> u32;
+    /// Forgets a payment of which nothing is under way.
+    pub fn lgm_payer_forget(payer: *mut Handle, payment: u64) -> u32;
+    /// Has what was learnt of edges fade, since balances move.
+    pub fn lgm_payer_fade(payer: *mut Handle, map: *mut Handle, elapsed: u32, half_life: u32) -> u32;
+    /// Copies what was learnt of edges, and opens a closed handle with it.
+    pub fn lgm_payer_learnt(payer: *mut Handle, estimates: *mut Handle) -> u32;
+    /// How many parts were sent, over all payments.
+    pub fn lgm_payer_sent(payer: *mut Handle) -> u64;
+    /// Looks up a payment.
+    pub fn lgm_payer_payment(payer: *mut Handle, payment: u64, info: *mut PaymentInfo) -> u32;
+    /// Goes through the payments by their numbers.
+    pub fn lgm_payer_next_payment(payer: *mut Handle, is_first: bool, payment: *mut u64) -> u32;
+    /// Looks up the part at a place of a payment, from 0 to `parts` of lgm_payment_info, in the order in which they
+    /// were sent, and writes its hops, with payload lengths of 0.
+    pub fn lgm_payer_part(
+        payer: *mut Handle,
+        payment: u64,
+        place: usize,
+        part: *mut PartInfo,
+        hops: *mut Hop,
+        hops_len: usize,
+    ) -> u32;
+    /// Writes all that a payer is as bytes, with a version and a checksum, and their length to `needed`.
+    pub fn lgm_payer_save(payer: *mut Handle, bytes: *mut u8, bytes_len: usize, needed: *mut usize) -> u32;
+    /// Opens a closed handle with the payer that was saved as these bytes.
+    pub fn lgm_payer_load(payer: *mut Handle, bytes: *const u8, bytes_len: usize) -> u32;
     /// Answers a peer's query_short_channel_ids or query_channel_range.
     pub fn lgm_query(
         map: *mut Handle,
@@ -501,6 +897,47 @@ unsafe extern "C" {
     ) -> u32;
     /// Moves the mark to the map as it is now, or sets the first mark, which takes no memory.
     pub fn lgm_mark(map: *mut Handle) -> u32;
+    /// Writes the query_channel_range that asks a peer for the ids of its channels of `blocks` blocks from
+    /// `first_block` on, and for the timestamps of their updates, and its length to `needed`.
+    pub fn lgm_ask_range(
+        map: *mut Handle,
+        first_block: u32,
+        blocks: u32,
+        query: *mut u8,
+        query_len: usize,
+        needed: *mut usize,
+    ) -> u32;
+    /// Writes the gossip_timestamp_filter that asks a peer for gossip with timestamps from `first` on, for so many
+    /// seconds, in the same way.
+    pub fn lgm_ask_filter(
+        map: *mut Handle,
+        first: u32,
+        seconds: u32,
+        filter: *mut u8,
+        filter_len: usize,
+        needed: *mut usize,
+    ) -> u32;
+    /// Tells what the map lacks of the channels in a peer's reply_channel_range, by ascending id.
+    pub fn lgm_lacking(
+        map: *mut Handle,
+        reply: *const u8,
+        reply_len: usize,
+        lacking: *mut Lacking,
+        lacking_len: usize,
+        needed: *mut usize,
+    ) -> u32;
+    /// Writes the query_short_channel_ids that asks a peer for what is lacking of the first LGM_MOST_IDS of these
+    /// channels, or of all if there are fewer, and its length to `needed`.
+    pub fn lgm_ask_ids(
+        map: *mut Handle,
+        lacking: *const Lacking,
+        lacking_len: usize,
+        query: *mut u8,
+        query_len: usize,
+        needed: *mut usize,
+    ) -> u32;
+    /// Moves the block up to which the replies to a query cover its range, exclusive, by one reply more.
+    pub fn lgm_covered(map: *mut Handle, reply: *const u8, reply_len: usize, next: *mut u64) -> u32;
     /// Opens a closed handle with the map as it is now, with its view, for good.
     pub fn lgm_publish(map: *mut Handle, published: *mut Handle) -> u32;
     /// Opens a closed handle with what the one of a published map has.
