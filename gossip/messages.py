@@ -14,7 +14,7 @@ import struct
 from typing import NamedTuple
 
 CHANNEL_ANNOUNCEMENT, NODE_ANNOUNCEMENT, CHANNEL_UPDATE = 256, 257, 258
-QUERY_SHORT_CHANNEL_IDS, QUERY_CHANNEL_RANGE, GOSSIP_TIMESTAMP_FILTER = 261, 263, 265
+QUERY_SHORT_CHANNEL_IDS, QUERY_CHANNEL_RANGE, REPLY_CHANNEL_RANGE, GOSSIP_TIMESTAMP_FILTER = 261, 263, 264, 265
 MAINNET = bytes.fromhex("6fe28c0ab6f1b372c1a6a246ae63f74f931e8365e15a089c68d6190000000000")
 CHAIN = bytes([0xC1]) * 32  # of made networks, and of no real one
 MOST_SATOSHI = 2_100_000_000_000_000  # there are no more
@@ -179,6 +179,15 @@ def query_channel_range(first_block, number_of_blocks, with_timestamps=False, ch
     """Type 263."""
     message = _message(QUERY_CHANNEL_RANGE, chain, _RANGE.pack(first_block, number_of_blocks))
     return message + b"\x01\x01\x01" if with_timestamps else message
+
+
+def reply_channel_range(first_block, number_of_blocks, scids, timestamps=None, chain=CHAIN):
+    """Type 264, the last reply; timestamps, where given, are two for each id."""
+    message = _message(REPLY_CHANNEL_RANGE, chain, _RANGE.pack(first_block, number_of_blocks), b"\1",
+                       _with_length(b"\0" + b"".join(scids)))
+    if timestamps is None:
+        return message
+    return message + b"\x01" + _bigsize(1 + 8 * len(timestamps)) + b"\0" + b"".join(_RANGE.pack(*pair) for pair in timestamps)
 
 
 def gossip_timestamp_filter(first_timestamp, timestamp_range, chain=CHAIN):

@@ -79,7 +79,7 @@ def faults_are_found():
 
 
 def queries():
-    """Types 261, 263 and 265."""
+    """Types 261, 263, 264 and 265."""
     other = bytes(8)
     assert messages.query_short_channel_ids([other, SCID]) == b"\1\5" + CHAIN + b"\0\x11\0" + other + SCID
     flagged = messages.query_short_channel_ids([SCID] * 252, b"\1" * 252)
@@ -88,6 +88,9 @@ def queries():
     asked = b"\1\7" + CHAIN + bytes.fromhex("000c3500" "00000010")
     assert messages.query_channel_range(800_000, 16) == asked
     assert messages.query_channel_range(800_000, 16, with_timestamps=True) == asked + b"\1\1\1"
+    told = b"\1\x08" + asked[2:] + b"\1\0\x09\0" + SCID
+    assert messages.reply_channel_range(800_000, 16, [SCID]) == told
+    assert messages.reply_channel_range(800_000, 16, [SCID], [(5, 0)]) == told + b"\1\x09\0\0\0\0\5" + bytes(4)
     assert messages.gossip_timestamp_filter(TIME, 16, messages.MAINNET) == (
         b"\1\x09" + messages.MAINNET + bytes.fromhex("65539a00" "00000010"))
 
