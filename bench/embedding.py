@@ -4,8 +4,8 @@
     python3 bench/embedding.py
 
 bench/offers.c makes the calls: it offers all messages of the workload `routes`, asks for the news of a filter, sets the
-mark, and finds the routes of all payments; then, as for a restart, it lists all that the map has and offers that to another
-map. Times are CPU time, the minimum of all runs. The program also reads the script's digits and writes its answers. For
+mark, and finds the routes of all payments; then, as for a restart, it saves the map as bytes and loads another one of
+them. Times are CPU time, the minimum of all runs. The program also reads the script's digits and writes its answers. For
 Python, the times are that of a call of `offer` beyond the same call in C, and those of `lgm.dump`. The library
 is built by examples/build-c if it isn't there.
 """

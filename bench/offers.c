@@ -1,7 +1,7 @@
 /*
  * Measures the library for C (include/lgm.h): offers the messages of a file to a map, asks for the news of a filter,
- * sets the mark, and finds the routes of the file's payments; then lists all that the map has, and offers that to
- * another map, as for a restart. It prints the CPU time of the calls of each kind.
+ * sets the mark, and finds the routes of the file's payments; then saves the map as bytes, and loads another map of them, as
+ * for a restart. It prints the CPU time of the calls of each kind.
  *
  *     offers CHAIN FILTER CALLS
  *
@@ -103,54 +103,6 @@ static size_t route_all(lgm_map *map, contents calls, size_t at, size_t *count) 
     return found;
 }
 
-/* Room for records, and how much of it is filled. */
-typedef struct {
-    uint8_t *bytes;
-    size_t len, count;
-} records;
-
-/* Where the next record's message goes, if it has room for the longest. */
-static uint8_t *next_message(records *out) {
-    if (out->len + 1 + sizeof(offered) + 65535 > ROOM) fail("the map is too large");
-    return out->bytes + out->len + 1 + sizeof(offered);
-}
-
-/* Ends a record, whose message is in its place, with its verdicts. */
-static void push(records *out, size_t len, uint32_t sig, const uint8_t *signer, uint32_t funding, uint64_t sat) {
-    offered next = {.sat = sat, .sig = sig, .funding = funding, .len = (uint32_t)len};
-    if (signer != NULL) memcpy(next.signer, signer, sizeof next.signer);
-    out->bytes[out->len] = MESSAGE;
-    memcpy(out->bytes + out->len + 1, &next, sizeof next);
-    out->len += 1 + sizeof next + len;
-    out->count++;
-}
-
-/* Lists the channels of a map with their messages, its nodes, and its bans, as lgm.dump of the Python package does. */
-static void list_all(lgm_map *map, records *out) {
-    uint64_t scid;
-    uint8_t point[33];
-    size_t len;
-    for (bool is_first = true; lgm_next_channel(map, is_first, &scid) == LGM_OK; is_first = false) {
-        lgm_channel_info channel;
-        expect(lgm_channel(map, scid, &channel), LGM_OK, "lgm_channel");
-        for (uint32_t which = 0; which < 3; which++) {
-            const lgm_direction *terms = which == 1 ? &channel.from_1 : &channel.from_2;
-            const uint8_t *node = which == 1 ? channel.node_1 : channel.node_2;
-            if (which > 0 && !terms->is_held) continue;
-            expect(lgm_channel_message(map, scid, which, next_message(out), 65535, &len), LGM_OK, "lgm_channel_message");
-            if (which == 0)
-                push(out, len, LGM_SIG_ALL_FOUR, NULL, LGM_FUNDING_UNSPENT, channel.capacity_sat);
-            else
-                push(out, len, LGM_SIG_BY, node, LGM_FUNDING_NOT_ASKED, 0);
-        }
-    }
-    for (bool is_first = true; lgm_next_node(map, is_first, point) == LGM_OK; is_first = false) {
-        expect(lgm_node_message(map, point, next_message(out), 65535, &len), LGM_OK, "lgm_node_message");
-        push(out, len, LGM_SIG_BY, point, LGM_FUNDING_NOT_ASKED, 0);
-    }
-    for (bool is_first = true; lgm_next_banned(map, is_first, point) == LGM_OK; is_first = false) out->count++;
-}
-
 int main(int argc, char **argv) {
     if (argc != 4) fail("usage: offers CHAIN FILTER CALLS");
     uint8_t chain[32], filter[FILTER_LEN], seed[16] = {1}, none = 0;
@@ -171,21 +123,19 @@ int main(int argc, char **argv) {
     double mark_end = seconds();
     size_t found = route_all(&map, calls, at, &payments);
     double routes_end = seconds();
-    records all = {.bytes = room};
-    list_all(&map, &all);
-    double list_end = seconds();
+    size_t saved;
+    expect(lgm_save(&map, room, ROOM, &saved), LGM_OK, "lgm_save");
+    double save_end = seconds();
     lgm_map other = {0};
-    expect(lgm_open(&other, chain, true, &none, 0, seed), LGM_OK, "lgm_open");
-    size_t loaded;
-    offer_all(&other, (contents){all.bytes, all.len}, &loaded);
+    expect(lgm_load(&other, chain, true, &none, 0, seed, room, saved), LGM_OK, "lgm_load");
     double load_end = seconds();
-    if (lgm_count(&other) != lgm_count(&map) || loaded != all.count) fail("the other map has something else");
+    if (lgm_count(&other) != lgm_count(&map)) fail("the other map has something else");
 
     printf("offers %zu %.6f\n", messages, offers_end - start);
     printf("news-and-mark %zu %.6f\n", news, mark_end - offers_end);
     printf("routes %zu %.6f\n", payments, routes_end - mark_end);
-    printf("dump %zu %.6f\n", all.count, list_end - routes_end);
-    printf("load %zu %.6f\n", loaded, load_end - list_end);
+    printf("dump %zu %.6f\n", saved, save_end - routes_end);
+    printf("load %zu %.6f\n", saved, load_end - save_end);
     printf("found %zu\n", found);
     lgm_free(&other);
     lgm_free(&map);

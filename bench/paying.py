@@ -1,21 +1,21 @@
 #!/usr/bin/env python3
-"""Simulates payments over balances that nobody knows: how many arrive, after how many tries, and for which fee.
+"""Simulates payments over balances that nobody knows: how many arrive, after how many rounds and tries, and for which fee.
 
     python3 bench/paying.py                  # a table, as docs/speed.md has it
     python3 bench/paying.py --picture        # and draws bench/paying.svg
 
 On a synthetic network each channel's balance is drawn by beta(0.3, 0.3) of its capacity, so most channels are nearly empty
-on one side. A payment between two random nodes follows the library's route within 2,016 blocks until an edge's balance is
-below what the edge is to carry, and is tried again without that edge, up to 20 times. The payer's own channel carries all
-that its maximum allows. What is paid moves no balance, so each way of paying meets the same ones.
+on one side. A payment between two random nodes is made within 2,016 blocks; the payer's own channel carries all that its maximum
+allows. What is paid moves no balance, so each way of paying meets the same ones.
 
-- least: the route that sends least
-- preferred: with what a failed try and a hop are worth, in msat
-- in parts: by `lgm.payer`, which divides the amount where the whole has no route any more; parts that arrived wait for the
-  others, and each part is a try
-- learning: with estimates too, from one payment to the next, as a service has them that pays for many: the edges before the
-  one that failed, and all of a payment that arrived, have carried what they were to carry, and that one has failed to. They
-  are learnt from as many payments as are counted and more before, and halved now and then.
+- possible: how many payments a flow over the true balances makes, whatever its parts are, without fees
+- least, 20,000 and 500: one route after the other for the whole amount, by the library's search, without each edge that
+  failed, up to 60 times: the one that sends least, or by what a failed try and a hop are worth, in msat
+- payer: by `lgm.payer`, which divides the amount where that is likely to bring more. All parts that are next are sent at once, and
+  fail where an edge's balance is below what it is to carry beside the parts that the payee holds: that is a round. Each part
+  is a try, of which there are 60
+- learning: with what the payments before have taught, as a service has them that pays for many: from as many payments as are
+  counted and more before. It fades by half each 100 payments
 
 A seed gives the same table. The library is built by examples/build-c.
 """
@@ -36,28 +36,29 @@ import lgm
 from gossip.messages import CHAIN
 from gossip.networks import Network
 from gossip.workloads import HEIGHT, sync
-from lgm.payer import Bounds, Invoice, Payer, Unpaid, halve
+from lgm.payer import Bounds, Invoice, Payer
 
-AMOUNTS = (10_000, 100_000, 500_000, 2_000_000)  # sat
+AMOUNTS = (10_000, 100_000, 500_000, 2_000_000, 5_000_000)  # sat
+SHOWN_AMOUNTS = AMOUNTS[1:]
 BLOCKS = 2_016
-TRIES = 20
+TRIES = 60
+SHOWN = 20  # tries, in the picture
 SKEW = 0.3  # both parameters of the beta distribution
 SECRET = bytes(32)
 PICTURE = Path(__file__).resolve().parent / "paying.svg"
 
 
 class Way(NamedTuple):
-    """A way of paying: its name, preferences if it has any, whether it learns, and whether it pays in parts."""
+    """A way of paying: its name, and preferences of single routes if it has any; or whether it is a payer's, and learns."""
 
     name: str
     preferences: Optional[tuple] = None
+    is_payer: bool = False
     learns: bool = False
-    divides: bool = False
 
 
-WAYS = (Way("least"), Way("20,000 and 500", (20_000, 500)), Way("100,000 and 500", (100_000, 500)),
-        Way("20,000 and 500, learning", (20_000, 500), True), Way("100,000 and 500, learning", (100_000, 500), True),
-        Way("20,000 and 500, in parts", (20_000, 500), divides=True))
+WAYS = (Way("least"), Way("20,000 and 500", (20_000, 500)), Way("payer", is_payer=True),
+        Way("payer, learning", is_payer=True, learns=True))
 
 
 class World(NamedTuple):
@@ -65,17 +66,23 @@ class World(NamedTuple):
 
     network: object
     balances: dict  # by id and start
-    own: dict  # a node's channels as its own, of those that pay
+    own: dict  # a node's channels as its own
+    maxima: dict  # of the edges that payments can use, by id and start
+    ways: dict  # by node: ids of its channels, and the nodes at their other ends
     before: list
     pairs: list
 
 
 class Outcome(NamedTuple):
-    """What became of a payment: whether it had a route, how many tries it took if it arrived, and the fee in msat."""
+    """What became of a payment: how many rounds and tries it took and how many parts it had if it arrived, and the fee in msat."""
 
-    is_routed: bool
+    rounds: Optional[int] = None
     tries: Optional[int] = None
+    parts: int = 1
     fee: Optional[int] = None
+
+
+NOTHING = Outcome()
 
 
 def words():
@@ -86,7 +93,8 @@ def words():
     add("--channels", type=int, default=15_000, help="of the network; 15,000 if left out")
     add("--payments", type=int, default=300, help="of each amount that are counted; 300 if left out")
     add("--before", type=int, default=1_000, help="payments that are learnt from before these; 1,000 if left out")
-    add("--decay", type=int, default=100, metavar="N", help="halve estimates each N payments; 100 if left out, 0 for never")
+    add("--fades", type=int, default=100, metavar="N", help="halve what was learnt each N payments; 100 if left out, 0 for never")
+    add("--amounts", type=int, nargs="+", default=AMOUNTS, metavar="SAT", help="the amounts; those of the picture if left out")
     add("--seed", type=int, default=1, help="of the network, the balances and the payments; 1 if left out")
     add("--picture", action="store_true", help=f"draw {PICTURE.relative_to(TOP)}")
     return parser.parse_args()
@@ -114,15 +122,16 @@ def balances_of(made, numbers):
     return balances
 
 
-def own_channels(network, points):
-    """The channels of these nodes as their own: each sends as much as its maximum allows."""
-    found = {point: [] for point in points}
+def own_channels(network):
+    """Each node's channels as its own, which send as much as their maxima allow, and the ends of all channels."""
+    own, ways = {}, {}
     for scid in network.channels():
         channel = network.channel(scid)
         for start, end, terms in ((channel.node_1, channel.node_2, channel.from_1), (channel.node_2, channel.node_1, channel.from_2)):
-            if start in found and terms is not None and not terms.is_disabled:
-                found[start].append(lgm.Edge(scid, start, end, htlc_maximum_msat=terms.htlc_maximum_msat))
-    return found
+            ways.setdefault(start, []).append((scid, end))
+            if terms is not None and not terms.is_disabled and terms.htlc_maximum_msat <= 1_000 * channel.capacity_sat:
+                own.setdefault(start, []).append(lgm.Edge(scid, start, end, htlc_maximum_msat=terms.htlc_maximum_msat))
+    return own, ways
 
 
 def drawn(options):
@@ -130,94 +139,131 @@ def drawn(options):
     made, numbers = Network(options.channels, options.seed), random.Random(options.seed)
     balances = balances_of(made, numbers)
     pairs = [tuple(numbers.sample(made.nodes, 2)) for _ in range(options.before + options.payments)]
-    network, counted = offer_all(made), pairs[options.before:]
-    return World(network, balances, own_channels(network, {start for start, _ in counted}), pairs[:options.before], counted)
+    network = offer_all(made)
+    own, ways = own_channels(network)
+    maxima = {(edge.scid, edge.start): edge.htlc_maximum_msat for edges in own.values() for edge in edges}
+    return World(network, balances, own, maxima, {node: ways.get(node, []) for node in made.nodes}, pairs[:options.before],
+                 pairs[options.before:])
 
 
-def failing(route, balances):
-    """The place of the first hop whose edge has less than it is to carry, if there is one."""
-    for place, hop in enumerate(route.hops[1:], 1):
-        if balances[hop.scid, hop.start] < hop.amount_msat:
-            return place
-    return None
-
-
-def learn(estimates, route, failed):
-    """Notes what a try has shown: which edges carried their amounts, and which one failed to."""
-    for hop in route.hops[1:failed]:
-        estimates.carried(hop.scid, hop.start, hop.amount_msat)
-    if failed is not None:
-        hop = route.hops[failed]
-        estimates.failed(hop.scid, hop.start, hop.amount_msat)
-
-
-def paid(world, ends, amount, way, estimates):
-    """What becomes of a payment."""
-    liked = {"preferences": lgm.Preferences(*way.preferences)} if way.preferences else {}
-    limits = []
-    for tries in range(1, TRIES + 1):
-        try:
-            route = world.network.route(*ends, amount, HEIGHT, SECRET, limits=limits, most_delay=BLOCKS, estimates=estimates,
-                                        **liked)
-        except (lgm.NoRoute, lgm.Undecided):
-            break
-        failed = failing(route, world.balances)
-        if estimates is not None:
-            learn(estimates, route, failed)
-        if failed is None:
-            return Outcome(True, tries, route.sent_msat - amount)
-        limits.append(lgm.Limit(route.hops[failed].scid, route.hops[failed].start))
-    return Outcome(bool(limits))
-
-
-def failing_beside(part, others, balances):
-    """The place of the first hop whose edge has less than it is to carry, beside the parts that have arrived, if there is one."""
-    filled = {}
-    for hop in (hop for other in others for hop in other.route.hops):
-        filled[hop.scid, hop.start] = filled.get((hop.scid, hop.start), 0) + hop.amount_msat
-    for place, hop in enumerate(part.route.hops[1:], 1):
+def failing(hops, balances, filled):
+    """The place of the first hop whose edge has less than it is to carry beside what fills it, if there is one."""
+    for place, hop in enumerate(hops[1:], 1):
         if balances[hop.scid, hop.start] - filled.get((hop.scid, hop.start), 0) < hop.amount_msat:
             return place
     return None
 
 
-def paid_in_parts(world, ends, amount, way):
-    """What becomes of a payment that may be divided."""
-    start, payee = ends
-    with Payer(start, lgm.Preferences(*way.preferences)) as payer:
-        payer.channels = world.own[start]
-        payment = payer.pay(Invoice(payee, amount, SECRET, basic_mpp=True), Bounds(most_fee_msat=amount, most_tries=TRIES))
-        waiting = []
+def paid(world, ends, amount, way):
+    """What becomes of a payment by single routes."""
+    liked = {"preferences": lgm.Preferences(*way.preferences)} if way.preferences else {}
+    limits = []
+    for tries in range(1, TRIES + 1):
         try:
-            while part := payment.next_part(world.network, HEIGHT):
-                failed = failing_beside(part, waiting, world.balances)
-                if failed is None:
-                    waiting.append(part)
-                else:
-                    payment.failed(part, "temporary_channel_failure", failed)
-        except (lgm.NoRoute, lgm.Undecided, Unpaid):
-            return Outcome(payment.tries > 0)
-        return Outcome(True, payment.tries, payment.fee_msat)
+            route = world.network.route(*ends, amount, HEIGHT, SECRET, limits=limits, most_delay=BLOCKS, **liked)
+        except (lgm.NoRoute, lgm.Undecided):
+            break
+        failed = failing(route.hops, world.balances, {})
+        if failed is None:
+            return Outcome(tries, tries, 1, route.sent_msat - amount)
+        limits.append(lgm.Limit(route.hops[failed].scid, route.hops[failed].start))
+    return NOTHING
 
 
-def outcomes(world, amount, way, decay):
+def next_parts(payment, network):
+    """The parts that are next, and whether all of the amount is then under way."""
+    parts = []
+    try:
+        while part := payment.next_part(network, HEIGHT):
+            parts.append(part)
+    except lgm.Fault:
+        return parts, False
+    return parts, True
+
+
+def paid_by(payer, world, payee, amount):
+    """What becomes of a payment of a payer, in rounds of parts that are sent at once."""
+    payment = payer.pay(Invoice(payee, amount, SECRET, basic_mpp=True), Bounds(most_fee_msat=amount, most_tries=TRIES))
+    filled, rounds = {}, 0
+    while True:
+        parts, is_whole = next_parts(payment, world.network)
+        rounds += 1
+        failures = 0
+        for part in parts:
+            failed = failing(part.route.hops, world.balances, filled)
+            if failed is None:
+                for hop in part.route.hops:
+                    filled[hop.scid, hop.start] = filled.get((hop.scid, hop.start), 0) + hop.amount_msat
+            else:
+                payment.failed(part, failed, "temporary_channel_failure")
+                failures += 1
+        if is_whole and not failures or not parts:
+            state = payment.state
+            for part in payment.parts_under_way:  # as if it came back, since no balance moves here
+                payment.failed(part, len(part.route.hops), "mpp_timeout")
+            return Outcome(rounds, state.tries, state.parts_held, state.fee_msat) if is_whole and not failures else NOTHING
+
+
+def paid_by_payers(world, amount, way, fades):
+    """The outcomes of all payments of an amount, each by its payer, with what those before have learnt."""
+    known, found, pairs = lgm.Estimates(), [], [*world.before, *world.pairs] if way.learns else world.pairs
+    for count, (start, payee) in enumerate(pairs, 1):
+        with Payer(start, estimates=known if way.learns else None) as payer:
+            payer.set_channels(world.own.get(start, []), 0)
+            found.append(paid_by(payer, world, payee, amount))
+            if fades and count % fades == 0:
+                payer.fade(world.network, 1, 1)
+            known.close()
+            known = payer.learnt()
+    known.close()
+    return found[-len(world.pairs):]
+
+
+def outcomes(world, amount, way, fades):
     """The outcomes of all payments of an amount that are counted."""
-    if way.divides:
-        return [paid_in_parts(world, ends, amount, way) for ends in world.pairs]
-    if not way.learns:
-        return [paid(world, ends, amount, way, None) for ends in world.pairs]
-    found = []
-    with lgm.Estimates() as estimates:
-        for count, ends in enumerate([*world.before, *world.pairs], 1):
-            found.append(paid(world, ends, amount, way, estimates))
-            if decay and count % decay == 0:
-                halve(world.network, estimates)
-    return found[len(world.before):]
+    if way.is_payer:
+        return paid_by_payers(world, amount, way, fades)
+    return [paid(world, ends, amount, way) for ends in world.pairs]
 
 
-def share(found, tries, routed):
-    """How many payments arrived by a try, as a part of those whose whole amount has a route."""
-    return sum(it.tries is not None and it.tries <= tries for it in found) / routed if routed else 0.0
+def is_possible(world, ends, amount):
+    """Whether a flow over the true balances makes a payment: augmented along shortest paths until it does, or none is left."""
+    (payer, payee), flow, left = ends, {}, amount
+
+    def room(scid, start, end):
+        most = world.maxima.get((scid, start), 0)
+        most = most and (most if start == payer else world.balances[scid, start])
+        return most - flow.get((scid, start), 0) + flow.get((scid, end), 0)
+
+    while left > 0:
+        before, ring = {payer: None}, [payer]
+        while ring and payee not in before:
+            following = []
+            for start in ring:
+                for scid, end in world.ways[start]:
+                    if end not in before and room(scid, start, end) > 0:
+                        before[end] = scid, start
+                        following.append(end)
+            ring = following
+        if payee not in before:
+            return False
+        path, end = [], payee
+        while before[end]:
+            path.append((*before[end], end))
+            end = before[end][1]
+        more = min(left, *(room(*step) for step in path))
+        for scid, start, end in path:
+            back = min(more, flow.get((scid, end), 0))
+            flow[scid, end] = flow.get((scid, end), 0) - back
+            flow[scid, start] = flow.get((scid, start), 0) + more - back
+        left -= more
+    return True
+
+
+def share(found, limit, possible, kind="tries"):
+    """How many payments arrived by a try, or by a round, as a part of those that are possible."""
+    taken = [getattr(it, kind) for it in found]
+    return sum(count is not None and count <= limit for count in taken) / possible if possible else 0.0
 
 
 def fee_ppm(found, everywhere, amount):
@@ -226,28 +272,31 @@ def fee_ppm(found, everywhere, amount):
     return f"{median(fees):.0f} ppm" if fees else "-"
 
 
-def tries_of(found):
-    """The mean of the tries that payments took to arrive."""
-    taken = [it.tries for it in found if it.tries is not None]
+def mean_of(found, kind):
+    """The mean of the tries, or the parts, of payments that arrived."""
+    taken = [getattr(it, kind) for it in found if it.tries is not None]
     return f"{mean(taken):.1f}" if taken else "-"
 
 
-def rows(sat, by_way):
+def rows(sat, possible, by_way):
     """The rows of an amount, with a column for each way."""
     everywhere = [place for place, each in enumerate(zip(*by_way)) if all(it.tries is not None for it in each)]
-    routed = sum(it.is_routed for it in by_way[0])
-    yield f"{sat:,} sat, {routed} with a route", "at the first try", [f"{share(found, 1, routed):.0%}" for found in by_way]
-    yield "", "by the third", [f"{share(found, 3, routed):.0%}" for found in by_way]
-    yield "", f"by the {TRIES}th", [f"{share(found, TRIES, routed):.0%}" for found in by_way]
-    yield "", "tries, if it arrived", [tries_of(found) for found in by_way]
-    yield "", f"fee, of {len(everywhere)} that arrived each way", [fee_ppm(found, everywhere, 1_000 * sat) for found in by_way]
+    first = f"{sat:,} sat"
+    for kind, limits in (("rounds", (1, 3, 10)), ("tries", (3, 20, TRIES))):
+        for limit in limits:
+            yield first, f"within {limit} {kind if limit > 1 else kind[:-1]}", f"{possible}", [
+                f"{share(found, limit, possible, kind):.0%}" for found in by_way]
+            first = ""
+    yield "", "parts, if it arrived", "", [mean_of(found, "parts") for found in by_way]
+    yield "", "tries, if it arrived", "", [mean_of(found, "tries") for found in by_way]
+    yield "", f"fee, of {len(everywhere)} that arrived each way", "", [fee_ppm(found, everywhere, 1_000 * sat) for found in by_way]
 
 
-def panel(place, title, by_way):
+def panel(place, title, possible, by_way):
     """The part of the picture that shows an amount: the share that arrived, by tries, for each way."""
     left, top = 60 + 355 * (place % 2), 90 + 230 * (place // 2)
     width, height = 290, 160
-    across = [left + width * (tries - 1) / (TRIES - 1) for tries in range(1, TRIES + 1)]
+    across = [left + width * (tries - 1) / (SHOWN - 1) for tries in range(1, SHOWN + 1)]
     yield plot.text(left, top - 10, "start", title, 13, "#111")
     for part in (0, 25, 50, 75, 100):
         y = top + height - height * part / 100
@@ -255,9 +304,8 @@ def panel(place, title, by_way):
         yield plot.text(left - 8, round(y + 4, 1), "end", f"{part} %", 11)
     for tries in (1, 5, 10, 15, 20):
         yield plot.text(round(across[tries - 1], 1), top + height + 16, "middle", str(tries), 11)
-    routed = sum(it.is_routed for it in by_way[0])
     for color, found in zip(plot.COLORS, by_way):
-        points = " ".join(f"{x:.1f},{top + height * (1 - share(found, tries, routed)):.1f}" for tries, x in enumerate(across, 1))
+        points = " ".join(f"{x:.1f},{top + height * (1 - share(found, tries, possible)):.1f}" for tries, x in enumerate(across, 1))
         yield f'<polyline points="{points}" fill="none" stroke="{color}" stroke-width="2"/>'
 
 
@@ -267,9 +315,9 @@ def picture(options, taken):
              "<title>Payments that arrived, by tries</title>", '<rect width="760" height="570" fill="#fff"/>',
              plot.text(20, 26, "start", "Payments that arrived, by tries", 16, "#111"),
              plot.text(20, 46, "start", f"{options.channels:,} channels, {options.payments} payments of each amount, "
-                                        "over balances that nobody knows")]
-    for place, (sat, by_way) in enumerate(taken.items()):
-        parts += panel(place, f"{sat:,} sat", by_way)
+                                        "over balances that nobody knows; of those that a flow makes")]
+    for place, sat in enumerate(SHOWN_AMOUNTS):
+        parts += panel(place, f"{sat:,} sat", *taken[sat])
     for place, (color, way) in enumerate(zip(plot.COLORS, WAYS)):
         x, y = 60 + 235 * (place % 3), 530 + 20 * (place // 3)
         parts += [f'<path d="M{x} {y - 4}h20" stroke="{color}" stroke-width="2"/>', plot.text(x + 26, y, "start", way.name)]
@@ -281,13 +329,14 @@ def main():
     options = words()
     lgm.library.LIBRARY = options.library.resolve()
     world, taken = drawn(options), {}
-    print(f"| amount | arrived | {' | '.join(way.name for way in WAYS)} |")
-    print(f"|---|---|{'---|' * len(WAYS)}")
+    print(f"| amount | arrived | possible | {' | '.join(way.name for way in WAYS)} |")
+    print(f"|---|---|---|{'---|' * len(WAYS)}")
     with world.network:
-        for sat in AMOUNTS:
-            taken[sat] = [outcomes(world, 1_000 * sat, way, options.decay) for way in WAYS]
-            for amount, what, cells in rows(sat, taken[sat]):
-                print(f"| {amount} | {what} | {' | '.join(cells)} |", flush=True)
+        for sat in options.amounts:
+            possible = sum(is_possible(world, ends, 1_000 * sat) for ends in world.pairs)
+            taken[sat] = possible, [outcomes(world, 1_000 * sat, way, options.fades) for way in WAYS]
+            for amount, what, flow, cells in rows(sat, *taken[sat]):
+                print(f"| {amount} | {what} | {flow} | {' | '.join(cells)} |", flush=True)
     if options.picture:
         PICTURE.write_text(picture(options, taken))
 

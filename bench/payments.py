@@ -34,7 +34,7 @@ OVERLAYS = {
     "empty": "an overlay of nothing",
     "usual": "ten limits, five own channels, two hints",
     "many": "1,000 limits, five own channels, two hints",
-    "silent": "the largest hub silent",
+    "silent": "the largest hub excluded",
 }
 PREFERRED = {
     "preferred": "failure_msat 20,000, hop_msat 500; 0 estimates",
