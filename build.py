@@ -1,10 +1,15 @@
 #!/usr/bin/env python3
 """Proves and builds the program `lgm`: the libraries that it depends on, lowest first, and then the program.
 
-    python3 build.py [--at-once N] [--cpu NAME] [--library CRATE] [--keep]
+    python3 build.py [--at-once N] [--cpu NAME] [--library CRATE] [--keep] [--for arm64]
     python3 build.py --is-stale
 
 With `--library` it builds a library and its dependencies instead: examples/build-c builds `lgm_c` so.
+
+With `--for arm64` it builds the program, or a library for other languages, for ARM64 machines, in `out/arm64` of its crate.
+The libraries below are those of any machine. That crate alone is proved for it, mostly by what was proved of it for this
+machine, which is kept in `out/checked`. The kit has no C library for ARM64: Debian's cross compiler links the program, with
+the C code of `runtime` in place of the kit's.
 
 Reports progress on stderr: which crate of how many, and how long each took; what a check printed is shown if it fails.
 Independent libraries are proved in parallel, as many as processors and memory allow, or N.
@@ -20,7 +25,7 @@ newer than the program, else 1.
 
 The program is built for x86-64-v3 if this machine's processor supports that, and then ends with status 127 on one that
 doesn't; a library for x86-64-v2. NAME, or LGM_CPU in the environment, is another target that the kit knows, or
-`default`: x86-64-v2.
+`default`: x86-64-v2. For ARM64 the environment doesn't count, and `default` is any processor.
 """
 
 import argparse
@@ -50,6 +55,11 @@ BYTES_A_SECOND = 1_500
 NO_CHAIN = "00" * 32
 ANY_CPU = "default"  # what is built for unless it is told otherwise
 NEWER_CPU = "x86-64-v3"
+ARM64 = "arm64"
+ARM64_TARGET = "aarch64-unknown-linux-gnu"
+ARM64_TOOLS = "aarch64-linux-gnu-"  # what the names of Debian's cross tools begin with
+ARM64_PACKAGES = "gcc-aarch64-linux-gnu libc6-dev-arm64-cross"
+RUNTIME = ("heap.c", "process.c")  # of the folder `runtime`
 NEWER_FLAGS = {"abm", "avx2", "bmi1", "bmi2", "f16c", "fma", "movbe"}  # what /proc/cpuinfo says of one
 
 
@@ -150,11 +160,47 @@ def giving_way(gives_way):
     return ("nice", "-n", "19") if gives_way and shutil.which("nice") else ()
 
 
+def compiler_for(machine):
+    """The C compiler for this machine or for ARM64."""
+    return f"{ARM64_TOOLS}gcc" if machine else "cc"
+
+
+def missing_for_arm64():
+    """What is said where Debian's cross compiler or its C library isn't there; empty where both are."""
+    compiler = compiler_for(ARM64)
+    missing = "" if shutil.which(compiler) else f"{compiler} isn't on the PATH"
+    if not missing:
+        said = subprocess.run((compiler, "-print-file-name=libc.a"), stdout=subprocess.PIPE, check=True, text=True).stdout
+        missing = "" if Path(said.strip()).is_absolute() else f"{compiler} has no C library"
+    return missing and f"{missing}: apt-get install {ARM64_PACKAGES}"
+
+
+STATEMENTS = "statements"  # what stands beside a library that was left with its statements alone
+
+
+def leave_stamp(crate, started):
+    """Says beside a library when its build began: a file that was edited meanwhile is newer."""
+    stamp = rlibs_of(crate) / STATEMENTS
+    stamp.touch()
+    os.utime(stamp, (started, started))
+
+
+def take_over(started):
+    """Counts as built here what a run of `rt ci` that began at this time left of libraries: each is proved. What was there
+    before is older."""
+    for crate in read_crates(TOP / "crates.txt"):
+        made = rlibs_of(crate) / f"{crate}.rlib"
+        if made.is_dir() and made.stat().st_mtime >= started:
+            leave_stamp(crate, started)
+
+
 class Builder:
-    """Builds crates by `rattle`, each over the statements of the libraries below it, and keeps no proof."""
+    """Builds crates by `rattle`, each over the statements of the libraries below it, and keeps no proof of these."""
 
     # The files of which one stands beside a library that was built.
-    stamps = ("statements", "stamp")
+    stamps = (STATEMENTS, "stamp")
+    # Where the proofs of what is linked are kept: the same for another machine has the same proofs.
+    kept = ("--incremental", "out/checked")
 
     def __init__(self, used):
         self.used = used
@@ -190,10 +236,7 @@ class Builder:
         shutil.rmtree(folder, ignore_errors=True)
         folder.mkdir(parents=True)
         self.rattle(crate, jobs, "--statements", "-o", folder / f"{crate}.rlib", gives_way=gives_way)
-        stamp = folder / self.stamps[0]
-        stamp.touch()
-        # As old as the start: a file that was edited meanwhile is newer.
-        os.utime(stamp, (started, started))
+        leave_stamp(crate, started)
 
     def linked(self, cpu):
         """What is said of the code that is linked, and of the processor that it is for."""
@@ -201,15 +244,55 @@ class Builder:
 
     def archive(self, crate, jobs, cpu):
         """Proves and builds a library that programs in other languages link with."""
-        self.rattle(crate, jobs, *self.linked(cpu), "--crate-type", "staticlib", "-o", f"out/lib{crate}.a")
+        self.rattle(crate, jobs, *self.linked(cpu), *self.kept, "--crate-type", "staticlib", "-o", f"out/lib{crate}.a")
 
     def program(self, jobs, cpu):
         """Proves and builds the program."""
         part = f"out/{PROGRAM}.o"
-        self.rattle(PROGRAM, jobs, *self.linked(cpu), "-o", part, root="main.rt")
+        self.rattle(PROGRAM, jobs, *self.linked(cpu), *self.kept, "-o", part, root="main.rt")
         call(PROGRAM, folder_of(PROGRAM), self.kit / "bin" / "rattle-link", "--target", "x86_64-unknown-linux-gnu", "--toolchain",
              self.kit / "toolchain", "-o", f"out/{PROGRAM}", part, self.kit / "c" / "libos_c.a", self.kit / "c" / "liblibc_c.a")
         call(PROGRAM, folder_of(PROGRAM), f"out/{PROGRAM}", "run", "--chain", NO_CHAIN)
+
+
+def link_by_cc(machine, kind, to):
+    """Links the program that was compiled for this machine or for ARM64 with the C code of `runtime` and the C library: as one
+    that loads it, "-pie", or has it, "-static-pie"."""
+    part = built_file(PROGRAM, machine).with_suffix(".o")
+    call(PROGRAM, TOP / "runtime", compiler_for(machine), "-std=c11", "-O2", "-fPIE", kind, "-Wl,-z,relro,-z,now", part, *RUNTIME,
+         "-o", to)
+
+
+class Crosser(Builder):
+    """Builds the program, and libraries for other languages, for ARM64, over libraries that are built already. It begins with
+    what was proved for this machine, if that is kept."""
+
+    def __init__(self, used, keeps):
+        super().__init__(used)
+        if keeps:
+            self.kept = ("--incremental", "out/incremental")  # as `rt` has it
+
+    def linked(self, cpu):
+        """What is said of the code that is linked, and of the machine that it is for."""
+        return (*super().linked(cpu), "--target", ARM64_TARGET)
+
+    def archive(self, crate, jobs, cpu):
+        """Proves and builds a library that programs in other languages link with. The three functions of the heap that it
+        needs aren't in it."""
+        made = self.place_for(built_file(crate, ARM64))
+        self.rattle(crate, jobs, *self.linked(cpu), *self.kept, "--crate-type", "staticlib", "-o", made)
+
+    def program(self, jobs, cpu):
+        """Proves and builds the program."""
+        made = self.place_for(built_file(PROGRAM, ARM64))
+        self.rattle(PROGRAM, jobs, *self.linked(cpu), *self.kept, "-o", made.with_suffix(".o"), root="main.rt")
+        link_by_cc(ARM64, "-pie", made)
+
+    @staticmethod
+    def place_for(made):
+        """A file, whose folder is there."""
+        made.parent.mkdir(parents=True, exist_ok=True)
+        return made
 
 
 def link(file, copy):
@@ -289,28 +372,28 @@ def is_fresh(used, crate, builder):
     return all(it.stat().st_mtime <= stamps[0].stat().st_mtime for it in (*files_of(crate), *stamps[1:], TOP / "crates.txt"))
 
 
-def built_file(target):
-    """What the build of the program, or of a library for other languages, leaves."""
-    return folder_of(target) / "out" / (PROGRAM if target == PROGRAM else f"lib{target}.a")
+def built_file(target, machine=None):
+    """What the build of the program, or of a library for other languages, leaves for this machine or for ARM64."""
+    return folder_of(target) / "out" / (machine or "") / (PROGRAM if target == PROGRAM else f"lib{target}.a")
 
 
-def is_stale(used, target, made):
+def is_stale(used, target, made, more=()):
     """Whether a file that is made of a crate isn't there, or is older than a file of the crate or of a library that it depends
-    on."""
+    on, or than one of some more."""
     if not made.exists():
         return True
     files = (file for it in (*below(used, target), target) for file in files_of(it))
-    return any(it.stat().st_mtime > made.stat().st_mtime for it in (TOP / "crates.txt", *files))
+    return any(it.stat().st_mtime > made.stat().st_mtime for it in (TOP / "crates.txt", *more, *files))
 
 
-def cpu_note(target):
+def cpu_note(target, machine=None):
     """The file that says for which processor a library for other languages was built here."""
-    return built_file(target).with_suffix(".cpu")
+    return built_file(target, machine).with_suffix(".cpu")
 
 
-def is_built_for(used, target, cpu):
+def is_built_for(used, target, cpu, machine=None):
     """Whether a library for other languages is as this script built it for a kind of processor, and no source is newer."""
-    note, made = cpu_note(target), built_file(target)
+    note, made = cpu_note(target, machine), built_file(target, machine)
     return not is_stale(used, target, made) and note.exists() and note.read_text() == cpu \
         and note.stat().st_mtime >= made.stat().st_mtime
 
@@ -381,17 +464,18 @@ def build_all(used, crates, at_once, builder):
                 say(f"{it}: {time.monotonic() - started[it]:.0f} s, {len(done)} of {len(crates) + 1}")
 
 
-def build_target(target, count, cpu, builder):
+def build_target(target, count, cpu, builder, machine=None):
     """Proves and builds what was asked for, over its libraries."""
     started, clock = time.time(), time.monotonic()
-    say(f"{target}, for {cpu} processors .." if cpu != ANY_CPU else f"{target} ..")
+    kinds = [machine] * bool(machine) + [f"{cpu} processors"] * (cpu != ANY_CPU)
+    say(f"{target}, for {', '.join(kinds)} .." if kinds else f"{target} ..")
     jobs = jobs_of_one(1, 1)
-    made = [built_file(target)]
+    made = [built_file(target, machine), built_file(target, machine).with_suffix(".o")]
     if target == PROGRAM:
         builder.program(jobs, cpu)
     else:
         builder.archive(target, jobs, cpu)
-        made.append(cpu_note(target))
+        made.append(cpu_note(target, machine))
         made[-1].write_text(cpu)
     for file in filter(Path.exists, made):
         # As old as the start: a file that was edited meanwhile is newer.
@@ -404,13 +488,16 @@ def arguments_of(used):
     parser = argparse.ArgumentParser(description=__doc__.split("\n")[0])
     parser.add_argument("--at-once", type=int, default=default_at_once(), metavar="N",
                         help="so many checks side by side, and from two on one more that gives way")
-    parser.add_argument("--cpu", default=os.environ.get("LGM_CPU"), metavar="NAME",
-                        help=f"the processor to build for: {NEWER_CPU}, or {ANY_CPU}, for any")
+    parser.add_argument("--cpu", metavar="NAME", help=f"the processor to build for: {NEWER_CPU}, or {ANY_CPU}, for any")
+    parser.add_argument("--for", choices=(ARM64,), dest="machine", help="build it for ARM64 machines")
     parser.add_argument("--library", choices=sorted(used), metavar="CRATE", help="build this library, not the program")
     parser.add_argument("--keep", action="store_true", help="keep the proofs, for checks of what will be changed")
     parser.add_argument("--is-stale", action="store_true", help="build nothing, and end with 0 if the program is older than a source")
     arguments = parser.parse_args()
-    arguments.cpu = arguments.cpu or (ANY_CPU if arguments.library else own_cpu())
+    if arguments.machine:
+        arguments.cpu = arguments.cpu or ANY_CPU
+    else:
+        arguments.cpu = arguments.cpu or os.environ.get("LGM_CPU") or (ANY_CPU if arguments.library else own_cpu())
     return arguments
 
 
@@ -420,12 +507,14 @@ def main():
     arguments = arguments_of(used)
     if arguments.is_stale:
         sys.exit(0 if is_stale(used, PROGRAM, built_file(PROGRAM)) else 1)
-    target = arguments.library or PROGRAM
+    target, machine = arguments.library or PROGRAM, arguments.machine
+    if missing := machine and missing_for_arm64():
+        sys.exit(f"lgm: {missing}")
     crates, at_once = below(used, target), max(1, arguments.at_once)
     keeps = arguments.keep or any((folder_of(it) / "out" / "incremental").is_dir() for it in (*crates, target))
     builder = Keeper(used, at_once) if keeps else Builder(used)
     stale = stale_of(used, crates, builder)
-    if arguments.library and not stale and is_built_for(used, target, arguments.cpu):
+    if arguments.library and not stale and is_built_for(used, target, arguments.cpu, machine):
         say(f"{target} is built already")
         return
     say(f"proving and building {len(stale) + 1} of {len(crates) + 1} crates, {min(at_once, len(stale) + 1)} at once; "
@@ -433,7 +522,7 @@ def main():
     begun = time.monotonic()
     try:
         build_all(used, stale, at_once, builder)
-        build_target(target, len(stale) + 1, arguments.cpu, builder)
+        build_target(target, len(stale) + 1, arguments.cpu, Crosser(used, keeps) if machine else builder, machine)
     except Failed as failed:
         crate, said, _status = failed.args
         sys.stderr.write(said)

@@ -21,6 +21,7 @@ GATE = """#!/bin/sh
 # Says what `rt ci` is made to say, or how many checks it may run at once, and ends so.
 [ "$*" = ci ] || exit 9
 echo "rt: on standard error" >&2
+[ -z "${MAKES-}" ] || { sleep 0.1; mkdir -p "$MAKES"; }
 [ "${GATE-}" = jobs ] && GATE="$RT_JOBS passed, 0 failed\\n"
 printf '%b' "${GATE:-12 passed, 0 failed\\n}"
 exit "${GATE_STATUS:-0}"
@@ -37,8 +38,9 @@ class Place:
 
     def __init__(self, folder):
         self.top, self.bin = folder / "repository", folder / "bin"
-        for file, text in (("bin/rt", GATE), ("repository/test", (TOP / "test").read_text()),
-                           *((f"repository/{name}", PART) for name in FILES), ("repository/crates/lgm/out/lgm", "")):
+        copies = ((f"repository/{name}", (TOP / name).read_text()) for name in ("test", "build.py"))
+        for file, text in (("bin/rt", GATE), *copies, *((f"repository/{name}", PART) for name in FILES),
+                           ("repository/crates.txt", "lgm_low:\nlgm_mid: lgm_low\n"), ("repository/crates/lgm/out/lgm", "")):
             (folder / file).parent.mkdir(parents=True, exist_ok=True)
             (folder / file).write_text(text)
             (folder / file).chmod(0o755)
@@ -103,6 +105,7 @@ def leaves_out_what_has_no_time(place):
 
 def stops_at_the_limit(place):
     """A part that is still running is stopped with what it started, and has neither passed nor failed."""
+    sys.path.insert(0, str(TOP))
     loader = SourceFileLoader("all_tests", str(TOP / "test"))
     test = module_from_spec(spec_from_loader(loader.name, loader))
     loader.exec_module(test)
@@ -120,6 +123,21 @@ def stops_at_the_limit(place):
     assert test.take_all(180) == (12, 0, [f"{name}, which was stopped at the limit of 180 minutes" for name in FILES])
 
 
+def takes_over_what_was_proved(place):
+    """Libraries that `rt ci` has left are built if it passed, but not those that were there before."""
+    low, mid = (place.top / "crates" / name / "out/rlib" for name in ("lgm_low", "lgm_mid"))
+    (mid / "lgm_mid.rlib").mkdir(parents=True)
+    os.utime(mid / "lgm_mid.rlib", (1, 1))
+    made = {"MAKES": str(low / "lgm_low.rlib")}
+    assert place.run(GATE="11 passed, 1 failed\n", GATE_STATUS="1", **made)[0] == 1
+    assert not (low / "statements").exists()
+    (low / "lgm_low.rlib").rmdir()
+    begun = time.time()
+    assert place.run(**made)[0] == 0
+    assert begun <= (low / "statements").stat().st_mtime <= (low / "lgm_low.rlib").stat().st_mtime
+    assert not (mid / "statements").exists()
+
+
 def needs_a_program(place):
     """Where `rt ci` fails and leaves no program, the rest is left out; so is all where there is no `rt`."""
     (place.top / "crates/lgm/out/lgm").unlink()
@@ -133,7 +151,7 @@ def needs_a_program(place):
 def main():
     """Runs each test, in order, in one place."""
     tests = (adds_up, runs_one_check_on_each_processor, fails, leaves_out_what_has_no_time, stops_at_the_limit,
-             needs_a_program)
+             takes_over_what_was_proved, needs_a_program)
     with tempfile.TemporaryDirectory() as folder:
         place = Place(Path(folder))
         for test in tests:
