@@ -76,11 +76,12 @@ def layered(stage):
     return Root(root, stage / "upper")
 
 
-def bare(stage):
-    """A bare Debian of this machine's release."""
+def bare(stage, machine):
+    """A bare Debian of this machine's release, for a machine by Debian's name for it."""
     release = re.search(r"^VERSION_CODENAME=(\w+)", Path("/etc/os-release").read_text(), flags=re.MULTILINE)[1]
     root = stage / "root"
-    subprocess.run(("debootstrap", "--variant=minbase", release, root), stdout=subprocess.DEVNULL, check=True)
+    words = ("debootstrap", f"--arch={machine}", "--variant=minbase", release, root)
+    subprocess.run(words, stdout=subprocess.DEVNULL, check=True)
     for part in ("dev", "proc"):
         subprocess.run(("mount", "--rbind", f"/{part}", root / part), check=True)
     shutil.copytree("/etc/apt", root / "etc" / "apt", dirs_exist_ok=True, symlinks=True)

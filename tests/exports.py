@@ -32,6 +32,7 @@ from surface.python_declarations import format_of, pieces_of  # noqa: E402
 
 SOURCES = TOP / "crates" / "lgm_c" / "src"
 REASONS = TOP / "crates" / "lgm_route" / "src" / "no_route.rt"
+ASKING = TOP / "crates" / "lgm_sync" / "src" / "asking.rt"
 RUST = TOP / "examples" / "rust" / "src"
 # The names of types of the sources in C and in ctypes.
 TYPES = {"bool": ("bool", ctypes.c_bool), "u8": ("uint8_t", ctypes.c_uint8), "u16": ("uint16_t", ctypes.c_uint16),
@@ -39,15 +40,17 @@ TYPES = {"bool": ("bool", ctypes.c_bool), "u8": ("uint8_t", ctypes.c_uint8), "u1
          "*mut u8": ("void *", ctypes.c_void_p)}
 # A field whose name is a keyword of Rattle's.
 FIELDS = {"kind": "type"}
-# Constants of the header that the protocol sets, and no number of the sources of this crate.
-OF_THE_PROTOCOL = {"LGM_MOST_HOPS", "LGM_MOST_PAYLOADS"}
 # A pattern of the sources, and the name in C of the number in it, of which `{}` is the name there.
 NUMBERS = (
     (r"fn lgm_version\(\) -> u32.*?\n\{\s*(?P<number>\d+)\s*\}", "LGM_VERSION"),
     (r"fn lgm_word\(number: u32, word: &mut \[u8; (?P<number>\d+)\]\)", "LGM_WORD_LEN"),
-    (r"^(?:pub\(crate\) )?const (?P<name>\w+): u\w+ = (?P<number>[\d_]+);", "LGM_{}"),
+    (r"^(?:pub(?:\(crate\))? )?const (?P<name>\w+): u\w+ = (?P<number>[\d_]+);", "LGM_{}"),
     (r"\bFault::(?:Unrouted\(RouteFault::)?(?P<name>\w+)\)? => (?P<number>\d+),", "LGM_{}"),
+    (r"\bPaymentFault::(?P<name>\w+) => (?P<number>\d+),", "LGM_{}"),
     (r"\bArgumentFault::(?P<name>\w+) => (?P<number>\d+),", "LGM_ARGUMENT_{}"),
+    (r"\bStage::(?P<name>\w+) => (?P<number>\d+),", "LGM_STAGE_{}"),
+    (r"\bNone => \((?P<number>\d+), 0, 0\),", "LGM_PART_HELD"),
+    (r"\bEnding::(?P<name>\w+)(?:\(failure\))?\) => \((?P<number>\d+),", "LGM_PART_{}"),
     (r"\bNoRouteReason::(?P<name>\w+) => (?P<number>\d+),", "LGM_{}"),
     (r"\bDecodeFault::(?P<name>\w+)(?:\(_\)|\(WireFault::(?P<inner>\w+)\))? => (?P<number>[56]\d),", "LGM_FAULT_{}"),
     (r"(?P<number>\d+) => Some\(Ref\w*::(?P<name>\w+)\)", "LGM_{}"),
@@ -95,14 +98,12 @@ def source_functions(text, header):
 
 
 def source_structs(text):
-    """The fields of each `repr(C)` struct, with the types of the sources; a pointer's field is one of its handle."""
+    """The fields of each `repr(C)` struct, with the types of the sources."""
     pattern = r"#\[repr\(C\)\]\s*#\[derive\([^)]*\)\]\s*pub struct (\w+)(?:<'a>)? \{(.*?)\n\}"
     field = r"^\s*(?:pub(?:\(crate\))? )?(\w+): (.+),$"
     structs = {name: re.findall(field, re.sub(r"^\s*(?:ghost|///).*$", "", fields, flags=re.MULTILINE), flags=re.MULTILINE)
                for name, fields in re.findall(pattern, text, flags=re.DOTALL)}
-    inside = {name: structs.pop(name) for name in list(structs) if name.endswith("Handle")}
-    return {name: [one for entry in fields for one in inside.get(entry[1], with_length(*entry))]
-            for name, fields in structs.items()}
+    return {name: [one for entry in fields for one in with_length(*entry)] for name, fields in structs.items()}
 
 
 def with_length(field, kind):
@@ -117,7 +118,8 @@ def source_constants(text):
         for found in re.finditer(pattern, text, flags=re.MULTILINE | re.DOTALL):
             parts = found.groupdict()
             words = ("not" if parts.get("is_not") else "", parts.get("name"), parts.get("inner"))
-            constants[name.format("_".join(upper(word) for word in words if word))] = int(parts["number"])
+            found = name.format("_".join(upper(word) for word in words if word))
+            constants[found.replace("LGM_MAX_", "LGM_MOST_")] = int(parts["number"])  # as the header says it
     return constants
 
 
@@ -179,11 +181,10 @@ def differences(header, sources, exported):
     structs = {one.name: [(str(member.type), member.name) for member in one.members] for one in header.structs}
     in_sources = {name_in_c(name, header): [(c_type(kind, header), field) for field, kind in fields]
                   for name, fields in source_structs(sources).items()}
-    ours = {name: number for name, number in header_constants(header).items() if name not in OF_THE_PROTOCOL}
     return [*differing("function", functions, source_functions(sources, header), "the sources"),
             *differing("function", dict.fromkeys(functions, "there"), dict.fromkeys(exported, "there"), "the library"),
             *differing("struct", structs, in_sources, "the sources"),
-            *differing("constant", ours, source_constants(sources), "the sources")]
+            *differing("constant", header_constants(header), source_constants(sources), "the sources")]
 
 
 def exports(library):
@@ -194,7 +195,7 @@ def exports(library):
 
 def source_text():
     """The sources of the crate, and that of the numbers of reasons."""
-    return "\n".join(path.read_text() for path in [*sorted(SOURCES.glob("*.rt")), REASONS])
+    return "\n".join(path.read_text() for path in [*sorted(SOURCES.glob("*.rt")), REASONS, ASKING])
 
 
 def unwrapped(header):

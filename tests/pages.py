@@ -33,7 +33,7 @@ PAGES = sorted([*TOP.glob("*.md"), *TOP.glob("docs/*.md"), *TOP.glob("bench/*.md
 SOURCES = ("crates/*/src/**/*.rt", "crates/*/specs/**/*.antt", "crates/*/proofs/**/*.antt", "include/*.h",
            "crates/*/must-fail/*.edit", "crates/*/args", "examples/**/*.py", "examples/c/*.c", "examples/rust/**/*.rs",
            "examples/build-c", "bench/*.py", "gossip/*.py", "tests/**/*.py", "*.py", "python/**/*.py",
-           "packaging/*", "surface/*.py", "crates.txt", "lgm", "test", "package", ".ci/run")
+           "packaging/*", "runtime/*.c", "surface/*.py", "crates.txt", "lgm", "test", "package", ".ci/run")
 COMMANDS = ("rt", "lgm", "./lgm", "./test", "python3", "git", "cd", "awk", "bitcoin-cli")
 # Names that aren't this repository's: the kit's, clap's, the C library's, the protocol's, placeholders.
 OUTSIDE = set("""
@@ -49,7 +49,7 @@ OUTSIDE = set("""
     temporary_channel_failure permanent_channel_failure unknown_next_peer channel_disabled fee_insufficient
     required_channel_feature_missing temporary_node_failure permanent_node_failure required_node_feature_missing
     incorrect_cltv_expiry amount_below_minimum expiry_too_soon expiry_too_far incorrect_or_unknown_payment_details
-    basic_mpp encrypted_recipient_data gossip_queries gossip_queries_ex warning
+    basic_mpp mpp_timeout failure_source_index erring_index encrypted_recipient_data gossip_queries gossip_queries_ex warning
     F.texts sync.Mutex runtime.LockOSThread liblgm.a liblgm.so BUILD.bazel routes.map
     create_route_from_path memcpy memmove memset malloc realloc free cc ar slab valgrind
 """.split())

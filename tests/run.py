@@ -16,9 +16,10 @@ from pathlib import Path
 
 TOP = Path(__file__).resolve().parent.parent
 ALONE = ("tests/pages.py", "tests/test_pages.py", "tests/test_build.py", "tests/test_package.py", "tests/test_all.py",
-         "tests/test_exports.py", "surface/make.py --check", "surface/test_header.py", "surface/test_makers.py",
-         "tests/test_texts.py", "gossip/test_messages.py", "gossip/test_notation.py", "tests/memory.py",
-         "python/tests/test_lgm.py", "examples/network/test_plots.py")
+         "tests/test_runtime.py", "tests/test_exports.py", "surface/make.py --check", "surface/test_header.py",
+         "surface/test_makers.py", "tests/test_texts.py", "gossip/test_messages.py", "gossip/test_notation.py", "tests/memory.py",
+         "python/tests/test_lgm.py", "python/tests/test_payer.py", "python/tests/test_limits.py",
+         "examples/network/test_plots.py")
 WITH_PROGRAM = ("examples/tools/test_why.py", "examples/tools/test_client.py", "examples/network/test_network.py",
                 "examples/electrum/test_wallet_database.py", "examples/test_examples.py", "examples/tools/test_why_route.py",
                 "examples/tools/test_shorten.py", "bench/test_route_picture.py", "tests/texts.py",

@@ -54,6 +54,13 @@ LINK = """#!/bin/sh
 # Makes a program that prints its arguments.
 printf '#!/bin/sh\\necho "$@"\\n' > out/lgm; chmod +x out/lgm
 """
+CROSS = """#!/bin/sh
+# Stands for Debian's cross compiler: notes its words, and makes what is behind -o.
+case $1 in -print-file-name=*) echo "${LIBC:-/usr/aarch64-linux-gnu/lib/libc.a}"; exit 0 ;; esac
+echo "$*" > "$LOG.linked"
+for word; do last=$word; done
+touch "$last"
+"""
 
 
 class Place:
@@ -63,7 +70,7 @@ class Place:
         self.top, self.log, self.kit = folder / "repository", folder / "log", folder / "kit"
         (self.kit / "bin").mkdir(parents=True)
         self.path = f"{self.kit / 'bin'}:{os.environ['PATH']}"
-        for name, text in (("rt", RT), ("rattle", RATTLE), ("rattle-link", LINK)):
+        for name, text in (("rt", RT), ("rattle", RATTLE), ("rattle-link", LINK), ("aarch64-linux-gnu-gcc", CROSS)):
             (self.kit / "bin" / name).write_text(text)
             (self.kit / "bin" / name).chmod(0o755)
         self.top.mkdir()
@@ -72,6 +79,7 @@ class Place:
             (self.top / name).chmod(0o755)
         (self.top / "crates.txt").write_text(CRATES)
         (self.top / "HANDLES").write_text("Handles allowed: none.\n")
+        (self.top / "runtime").mkdir()
         for name in ("low", "left", "right", "lgm", "other_tests"):
             for part in ("src", "specs", "proofs"):
                 (self.top / "crates" / name / part).mkdir(parents=True)
@@ -177,6 +185,34 @@ def tells_rattle_what_it_uses(place):
         assert word in told, (word, told)
 
 
+def builds_for_arm64(place):
+    """The program and a library for ARM64 are built over the libraries that are there, beside those for this machine."""
+    place.touch("lgm")
+    place.run("./lgm", "run")
+    done, log = place.run("./build.py", "--for", "arm64", LGM_CPU="x86-64-v3")
+    assert done.returncode == 0 and log == ["begin lgm", "end lgm"] and "lgm, for arm64 .." in done.stderr, (done, log)
+    told, linked = (place.log.with_name(f"log.{it}").read_text() for it in ("run", "linked"))
+    assert " --target aarch64-unknown-linux-gnu " in told and "/out/arm64/lgm.o\n" in told and "--cpu" not in told, told
+    keeps = (place.top / "crates/lgm/out/incremental").is_dir()
+    assert f" --incremental out/{'incremental' if keeps else 'checked'} " in told, told
+    out = place.top / "crates/lgm/out"
+    assert f"-pie -Wl,-z,relro,-z,now {out}/arm64/lgm.o heap.c process.c -o {out}/arm64/lgm\n" in linked, linked
+    assert place.run("./lgm", "run")[1] == []
+    done, log = place.run("./build.py", "--for", "arm64", "--library", "other_tests")
+    assert done.returncode == 0 and log[-1] == "end other_tests", (done, log)
+    told = place.log.with_name("log.run").read_text()
+    assert " --target aarch64-unknown-linux-gnu " in told and told.endswith("/out/arm64/libother_tests.a\n"), told
+    done, log = place.run("./build.py", "--for", "arm64", "--library", "other_tests")
+    assert (done.stderr, log) == ("lgm: other_tests is built already\n", []), (done, log)
+    done, log = place.run("./build.py", "--for", "arm64", LIBC="libc.a")
+    assert done.returncode == 1 and log == [] and done.stderr == "lgm: aarch64-linux-gnu-gcc has no C library: apt-get " \
+        "install gcc-aarch64-linux-gnu libc6-dev-arm64-cross\n", (done, log)
+    (place.kit / "bin" / "aarch64-linux-gnu-gcc").unlink()
+    if not shutil.which("aarch64-linux-gnu-gcc"):
+        done, log = place.run("./build.py", "--for", "arm64")
+        assert done.returncode == 1 and log == [] and "isn't on the PATH: apt-get install " in done.stderr, (done, log)
+
+
 def keeps_what_is_proved(place):
     """With `--keep` `rt` builds the libraries, and once it has kept something, also without."""
     done, log = place.run("./build.py", "--keep")
@@ -220,8 +256,8 @@ def says_what_failed(place):
 def main():
     """Runs each test, in order: those of a build in one place, and those of one that keeps proofs in another."""
     tests = (tries_what_is_not_built, builds_and_runs, builds_for_a_processor, builds_what_changed, builds_a_library,
-             tells_rattle_what_it_uses, builds_side_by_side, says_what_failed)
-    kept = (builds_and_runs, keeps_what_is_proved, builds_side_by_side, says_what_failed)
+             builds_for_arm64, tells_rattle_what_it_uses, builds_side_by_side, says_what_failed)
+    kept = (builds_and_runs, keeps_what_is_proved, builds_for_arm64, builds_side_by_side, says_what_failed)
     for some in (tests, kept):
         with tempfile.TemporaryDirectory() as folder:
             place = Place(Path(folder))

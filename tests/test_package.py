@@ -18,8 +18,12 @@ sys.dont_write_bytecode = True  # the repository gets no made files
 
 TOP = Path(__file__).resolve().parent.parent
 sys.path.insert(1, str(TOP))  # with build.py
-SOURCES = ("crates.txt", "include/lgm.h", "crates/low/src/lib.rt", "crates/lgm/src/main.rt", "crates/lgm_c/src/lib.rt")
-PROGRAM, ARCHIVE, SHARED = "crates/lgm/out/lgm", "examples/out/liblgm.a", "examples/out/liblgm.so.7"
+SOURCES = ("crates.txt", "include/lgm.h", "crates/low/src/lib.rt", "crates/lgm/src/main.rt", "crates/lgm_c/src/lib.rt",
+           "runtime/heap.c", "runtime/process.c")
+# What is built for x86-64 and for ARM64.
+PROGRAM, PART, ARCHIVE, SHARED = "crates/lgm/out/lgm", "crates/lgm/out/lgm.o", "examples/out/liblgm.a", "examples/out/liblgm.so.7"
+FOR_ARM64 = ("crates/lgm/out/arm64/lgm", "crates/lgm/out/arm64/lgm.o", "examples/out/arm64/liblgm.a",
+             "examples/out/arm64/liblgm.so.7")
 
 
 def loaded():
@@ -36,8 +40,8 @@ class Place:
     def __init__(self, package, top):
         self.package, self.top, self.built = package, top, []
         package.TOP, package.build.TOP = top, top
-        package.PROGRAM, package.LIBRARIES = top / PROGRAM, top / "examples/out"
-        package.build_by = lambda *words: self.built.append(Path(words[-1]).name)
+        package.LIBRARIES = top / "examples/out"
+        package.build_by = lambda *words: self.built.append(" ".join(Path(word).name for word in words if word != sys.executable))
         for file in SOURCES:
             self.write(file, 100)
         (top / "crates.txt").write_text("low:\nlgm: low\nlgm_c staticlib: low\n")
@@ -51,10 +55,10 @@ class Place:
         place.touch()
         os.utime(place, (seconds, seconds))
 
-    def builds(self):
-        """What is built now."""
+    def builds(self, machine="amd64"):
+        """What is built now for a machine."""
         self.built.clear()
-        self.package.build_what_is_stale()
+        self.package.build_what_is_stale(self.package.MACHINES[machine])
         return self.built
 
 
@@ -62,6 +66,8 @@ def only_what_is_stale_is_built(place):
     """What isn't there, and what is older than a source of its crate or of one below."""
     assert place.builds() == ["build.py", "build-c"]
     place.write(PROGRAM, 200)
+    assert place.builds() == ["build.py", "build-c"]
+    place.write(PART, 200)
     assert place.builds() == ["build-c"]
     place.write(ARCHIVE, 200)
     assert place.builds() == ["build-c"]
@@ -72,7 +78,29 @@ def only_what_is_stale_is_built(place):
         place.write(source, 300)
         assert place.builds() == wanted, source
         place.write(source, 100)
+    place.write("runtime/heap.c", 300)
     assert place.builds() == []
+    for_arm64 = ["build.py --for arm64", "build-c --for arm64"]
+    assert place.builds("arm64") == for_arm64
+    for file in FOR_ARM64:
+        place.write(file, 200)
+    assert place.builds("arm64") == for_arm64
+    place.write("runtime/heap.c", 100)
+    assert place.builds("arm64") == []
+    place.write("crates/lgm/src/main.rt", 300)
+    assert place.builds("arm64") == for_arm64[:1]
+
+
+def says_what_is_missing(package):
+    """Where a tool isn't there, a line says so, for ARM64 with the packages that have it."""
+    with tempfile.TemporaryDirectory() as folder:
+        before, os.environ["PATH"] = os.environ["PATH"], folder
+        for name in ("dpkg-deb", "strip"):
+            Path(folder, name).touch(0o755)
+        said = {name: package.missing_for(machine) for name, machine in package.MACHINES.items()}
+        os.environ["PATH"] = before
+    assert said == {"amd64": "cc isn't on the PATH", "arm64": "aarch64-linux-gnu-gcc isn't on the PATH: apt-get install "
+                    "gcc-aarch64-linux-gnu libc6-dev-arm64-cross"}, said
 
 
 def builds_for_any_processor(package):
@@ -105,14 +133,31 @@ def pages_link_to_what_is_packed(package):
     assert any("network.svg" in why for why in package.lost_links(files - {TOP / "docs/network.svg"}))
 
 
+def examples_are_where_nothing_leaves_them_out(package):
+    """Nothing that is used is in the folder of pages, and each link there and from there leads to what is packed."""
+    tree = package.documentation(0)
+    folders = {str(parent) for place in tree for parent in Path(place).parents} | {"include", "bin"}
+    for place, entry in tree.items():
+        is_read = place.startswith("share/doc/lgm/")
+        if isinstance(entry, package.Link):
+            assert os.path.normpath(Path(place).parent / entry.target) in {*folders, *tree, "bin/lgm"}, (place, entry)
+        else:
+            assert is_read == (place.split("/")[3 if is_read else 2] not in package.USED), place
+    names = [{place.removeprefix(top).split("/")[0] for place in tree if place.startswith(top)}
+             for top in ("share/lgm/", "share/doc/lgm/")]
+    assert names[0] == names[1] - {"changelog.gz", "copyright"}, names
+
+
 def main():
     """Runs each."""
     package = loaded()
     pages_link_to_what_is_packed(package)
+    examples_are_where_nothing_leaves_them_out(package)
+    says_what_is_missing(package)
     builds_for_any_processor(package)
     with tempfile.TemporaryDirectory() as folder:
         only_what_is_stale_is_built(Place(package, Path(folder)))
-    print("3 passed")
+    print("5 passed")
 
 
 if __name__ == "__main__":

@@ -128,10 +128,11 @@ def from_python():
     assert lgm.payloads(route, SECRET, 30_000, METADATA, {KEYSEND: PREIMAGE})[1] == b"\x5c" + PAID + MORE
     assert lgm.payloads(route, SECRET)[1] == b"\x2d" + PAID[:-2] + b"\x27\x10"
     refused = [(lgm.WrongHops, (replace(route, hops=()), SECRET)), (lgm.WrongHops, (replace(route, hops=hops[::-1]), SECRET)),
-               (lgm.PayloadsTooLong, (route, SECRET, 1, bytes(1_300))), (ValueError, (route, SECRET[1:])),
-               (ValueError, (route, SECRET, 2**64)), (ValueError, (route, SECRET, 1, b"", {65_535: b""})),
-               (TypeError, (hops, SECRET)), (TypeError, (route, SECRET, 1, "m")),
-               (TypeError, (route, SECRET, 1, b"", {65_536: 1}))]
+               (lgm.PayloadsTooLong, (route, SECRET, 30_000, bytes(1_300))), (ValueError, (route, SECRET[1:])),
+               (ValueError, (route, SECRET, 2**64)), (ValueError, (route, SECRET, 9_999)),
+               (ValueError, (route, SECRET, 30_000, b"", {65_535: b""})),
+               (TypeError, (hops, SECRET)), (TypeError, (route, SECRET, 30_000, "m")),
+               (TypeError, (route, SECRET, 30_000, b"", {65_536: 1}))]
     for fault, arguments in refused:
         try:
             lgm.payloads(*arguments)

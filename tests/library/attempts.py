@@ -2,6 +2,7 @@
 there is no route. The numbers are worked out by hand, from docs/protocol.md.
 """
 
+import os
 import time
 from ctypes import addressof, create_string_buffer
 
@@ -243,7 +244,8 @@ def most_limits():
 
 @test
 def many_of_one_node():
-    """100,000 edges of one node, and 300,000 limits of them, take less than a second."""
+    """100,000 edges of one node, and 300,000 limits of them, take less than a second, or than LGM_SECONDS where a machine is
+    emulated."""
     handle = opened()
     edges = b"".join(edge(1_000 + number, B, C, 5, 30) for number in range(100_000))
     limits = b"".join(limit(1_000 + number % 100_000, B, 10_000 - number // 200_000) for number in range(299_999))
@@ -255,7 +257,7 @@ def many_of_one_node():
     took = time.perf_counter() - before
     # Of the last id alone the third limit is missing, so that it carries the amount.
     assert (number, Hop(*HOP.unpack_from(hops, HOP.size)).scid) == (0, 100_999)
-    assert took < 1, f"{took:.2f} s"
+    assert took < float(os.environ.get("LGM_SECONDS", 1)), f"{took:.2f} s"
     free(handle)
 
 

@@ -2,11 +2,12 @@
 docs/protocol.md.
 """
 
-from ctypes import byref, c_uint64
+from ctypes import byref, c_size_t, c_uint64
 
 from attempts import OVER_6, OVER_7, PLAIN, TWO_HINTS, C, answer, answer_of_both, both_kinds, edge, refusal, search
-from calls import A, B, NUMBER, at, closed, free, library, test
+from calls import A, B, NUMBER, at, closed, free, library, opened as one_channel, test
 from lgm.library import ESTIMATE
+from lgm.payer import Payer
 
 MOST = 2**64 - 1
 UNKNOWN = 0, MOST, 0  # what is believed of an edge of which nothing is known
@@ -124,6 +125,63 @@ def answer_by(handles, estimates, asked):
     found = answer_of_both(handles, C, edges=TWO_HINTS, estimates=estimates, asked=asked)
     assert entries(estimates) == before
     return found
+
+
+@test
+def fading():
+    """Half of what is known is left for each half-life, in a map that has the channel; a half-life of 0 counts as 1."""
+    known, handle = opened(), one_channel()
+    assert library.lgm_estimates_fade(closed(), handle, 1, 1) == library.lgm_estimates_fade(known, closed(), 1, 1) == 100
+    assert library.lgm_estimates_set(known, NUMBER, A, ESTIMATE.pack(80_000_000, 90_000_000, 1_000)) == 0
+    assert library.lgm_estimates_set(known, NUMBER + 1, A, SET) == 0
+    for elapsed, half_life, wanted in ((10, 10, (40_000_000, 95_000_000, 500)), (1, 0, (20_000_000, 97_500_000, 250)),
+                                       (0, 5, (20_000_000, 97_500_000, 250))):
+        assert library.lgm_estimates_fade(known, handle, elapsed, half_life) == 0
+        assert entries(known) == [[NUMBER, A, wanted]]
+    library.lgm_estimates_free(known)
+    free(handle)
+
+
+def saved(handle, length=None):
+    """What is known as bytes: the number, the length over 7, and the bytes."""
+    needed = c_size_t(7)
+    number = library.lgm_estimates_save(handle, None, 0, byref(needed)) if length is None else 104
+    room = bytearray(needed.value if length is None else length)
+    if number == 104:
+        number = library.lgm_estimates_save(handle, at(room), len(room), byref(needed))
+    return number, needed.value, bytes(room)
+
+
+def loaded(data, handle=None):
+    """What opening a handle with bytes returns, and the handle."""
+    handle = closed() if handle is None else handle
+    return library.lgm_estimates_load(handle, data, len(data)), handle
+
+
+@test
+def bytes_of_estimates():
+    """What was saved is loaded, in its order, and damaged bytes are not, nor what a payer saves."""
+    assert saved(closed()) == (100, 7, bytes(7))
+    known = opened()
+    number, length, empty = saved(known)
+    assert (number, length) == (0, 12 + 8 + 16) and empty.startswith(b"lgm est\n\0\0\0\1" + bytes(8))
+    for scid in (7, 5, 6):
+        assert library.lgm_estimates_set(known, scid, B, ESTIMATE.pack(scid, MOST, 1)) == 0
+    number, length, data = saved(known)
+    edges = b"".join(scid.to_bytes(8, "big") + B + scid.to_bytes(8, "big") + b"\xff" * 8 + (1).to_bytes(8, "big") for scid in (7, 5, 6))
+    assert (number, length) == (0, 12 + 8 + len(edges) + 16) and data[20:-16] == edges
+    assert saved(known, length - 1) == (104, length, bytes(length - 1))
+    assert loaded(data, known)[0] == 101
+    number, other = loaded(data)
+    assert number == 0 and entries(other) == entries(known) and saved(other) == saved(known)
+    for place, byte in enumerate(data):
+        assert loaded(data[:place])[0] == 34 == loaded(data[:place] + bytes([byte ^ 1]) + data[place + 1:])[0]
+    assert loaded(data + b"\0")[0] == 34
+    with Payer(A) as payer:
+        number, left = loaded(payer.save())
+        assert number == 34 and bytes(left) == bytes(16)
+    library.lgm_estimates_free(known)
+    library.lgm_estimates_free(other)
 
 
 @test

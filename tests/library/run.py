@@ -5,7 +5,7 @@
 
 SHARED_OBJECT is examples/out/liblgm.so if left out. TEST is one of the tests, as `published.owners`; without it each runs,
 in a process of its own, since some look at the most memory that theirs has had. The last line is then
-`N passed, M failed`. The exit status is 1 if any failed. It needs Linux's /proc, and takes some twenty seconds.
+`N passed, M failed`. The exit status is 1 if any failed. It needs Linux's /proc, and takes some forty seconds.
 """
 
 import os
@@ -18,7 +18,8 @@ sys.dont_write_bytecode = True  # the repository gets no made files
 
 TOP = Path(__file__).resolve().parents[2]
 SHARED_OBJECT = Path(sys.argv[1]).resolve() if len(sys.argv) > 1 else TOP / "examples/out/liblgm.so"
-FILES = ("each_call", "arrivals", "attempts", "bounds", "estimates", "listing", "published", "wanted")
+FILES = ("each_call", "arrivals", "attempts", "bounds", "estimates", "fuzzed", "large", "listing", "owners", "payers", "pruning",
+         "published", "reading", "saving", "syncing", "wanted")
 
 
 def all_tests():
